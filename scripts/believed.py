@@ -71,7 +71,13 @@ ENTRIES = [
         ("", "vls_set_add_grammar"),
         ("", "vls_set_page"),
         ("", "vls_set_output"),
+        ("", "vls_set_find"),
+        ("", "vls_doc_new"),
+        ("", "vls_doc_line"),
+        ("", "vls_doc_reset"),
+        ("", "vls_doc_spans"),
     ]),
+    ("What is wrong with a grammar", [("", "diagnose")]),
 ]
 
 

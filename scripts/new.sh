@@ -62,5 +62,5 @@ crates/$name shows a file in a terminal. In that folder
 
     rt try -- $here/examples/grammars $here/examples/dusk.json src/main.rt
 
-runs it without a proof, in two to four minutes, and rt check proves it.
+runs it without a proof, in two to four minutes on an idle machine (--seconds 300 gives it more), and rt check proves it.
 END

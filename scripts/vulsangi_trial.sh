@@ -94,6 +94,10 @@ seen "-l takes a name without regard to case" out "<span style="
 call_with "fn a() {}" -f html --fragment -l nothing
 seen "-l of no language" err "vulsangi: no language is called 'nothing'; there are: "
 seen "is status 1" ended 1
+call_with "fn a() {}" -f html --fragment -l Pythn
+seen "-l of a misspelt language" err "vulsangi: no language is called 'Pythn'; is 'Python' meant?"
+call chek mine
+seen "a misspelt command" err "is the command 'check' meant?"
 call_with "fn a() {}" -f classes --fragment
 seen "standard input is plain text" out "v-text v-plain"
 call_with "fn a() {}" -f classes --fragment --file-name x.rs
@@ -373,6 +377,7 @@ call scopes --grammars mine test.note
 seen "scopes of a file" out "2:3-6 text.note keyword.other.note"
 call scopes --grammars mine --theme dusk test.note:2:3
 seen "scopes of a place" out "scope   keyword.other.note"
+seen "and the entry that gave it" out "        Note, main: match (TODO), group 1"
 seen "and its rule" out "by      keyword"
 call scopes --grammars mine test.note:9:1
 seen "scopes of no place" err "vulsangi: test.note:9:1: nothing stands there"

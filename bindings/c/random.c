@@ -63,7 +63,7 @@ static int32_t new_set(vls_set *set) {
 static int32_t one_call(vls_set *set) {
     uint8_t a[1024], b[1024], c[1024];
     size_t m = random_text(a, sizeof a), n = random_text(b, sizeof b), k = random_text(c, sizeof c);
-    switch (below(15)) {
+    switch (below(16)) {
     case 0: return new_set(set);
     case 1: vls_set_free(set); return VLS_OK;
     case 2: return vls_set_add_grammar(set, a, m, b, n);
@@ -74,6 +74,7 @@ static int32_t one_call(vls_set *set) {
     case 7: return vls_set_page(set, a, m, b, n, c, k, below(6));
     case 8: case 12: case 13: case 14: return page(set, a, m);
     case 9: return vls_set_languages(set);
+    case 15: return vls_set_find(set, a, m, b, n);
     case 10: copied(set, vls_set_output); return VLS_OK;
     default: copied(set, vls_set_fault); return VLS_OK;
     }

@@ -47,6 +47,9 @@ static bool one_refused(long turn) {
     int32_t theme = vls_set_add_theme(&set, T("two"), T(small_theme));
     seen(turn, "add_theme", theme);
     seen(turn, "languages", vls_set_languages(&set));
+    int32_t found = vls_set_find(&set, T("a.c"), T("let x\n"));
+    if (grammar == VLS_OK)
+        seen(turn, "find", found);
     int32_t page = vls_set_page(&set, T("let x < 1\n"), T(grammar == VLS_OK ? "sml" : "txt"), T("two"), VLS_HTML);
     if (theme == VLS_OK)
         seen(turn, "page", page);

@@ -11,6 +11,7 @@
 static const char small_grammar[] = "name: Small\n"
                                     "file_extensions: [sml]\n"
                                     "scope: source.small\n"
+                                    "first_line_match: '^let\\b'\n"
                                     "contexts:\n"
                                     "  main:\n"
                                     "    - match: '\\b(let|in)\\b'\n"

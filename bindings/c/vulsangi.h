@@ -88,12 +88,61 @@ int32_t vls_set_page(vls_set *set, const uint8_t *text, size_t text_size, const 
  * between them. */
 int32_t vls_set_languages(vls_set *set);
 
+/* Finds the language of a text: what the name of its file tells, be it the whole name (`Makefile`) or its extension, or else
+ * its first line (`#!/bin/sh`). The output is the language's name, as vls_set_page takes it. VLS_UNKNOWN_LANGUAGE where
+ * neither tells one, VLS_LIMIT where looking at the line took too long. */
+int32_t vls_set_find(vls_set *set, const uint8_t *file, size_t file_size, const uint8_t *line, size_t line_size);
+
 /* Copies the output to a room, as much of it as there is room for, and answers how many bytes it has. 0 where the handle
  * is empty. */
 size_t vls_set_output(vls_set *set, uint8_t *room, size_t room_size);
 
 /* The same of the text that tells why a call was refused, the last that was. */
 size_t vls_set_fault(vls_set *set, uint8_t *room, size_t room_size);
+
+/* A text that is read line by line. */
+typedef struct vls_doc {
+    void *vls_at;
+    bool vls_full;
+} vls_doc;
+
+#define VLS_DOC_EMPTY { NULL, false }
+
+/* What a font is, added. */
+enum { VLS_BOLD = 1, VLS_UNDERLINE = 2, VLS_ITALIC = 4 };
+
+/* A piece of a line: where it stands, in bytes, and its style. A colour has a byte each for red, green, blue and how opaque it
+ * is, the first the highest: 0xff0000ff is red. */
+typedef struct vls_span {
+    size_t offset;
+    size_t length;
+    uint32_t foreground;
+    uint32_t background;
+    uint32_t flags;
+} vls_span;
+
+/* Makes a document in the language of a name, by the theme of a name, before its first line. The grammars of the set are
+ * linked, unless they are. What the handle held before is freed. Where it is refused, vls_set_fault tells why. */
+int32_t vls_doc_new(vls_doc *doc, vls_set *set, const uint8_t *language, size_t language_size, const uint8_t *theme,
+                    size_t theme_size);
+
+/* Frees what the handle holds, which is then empty. */
+void vls_doc_free(vls_doc *doc);
+
+/* Reads the next line, with its newline, and keeps its spans, which follow one another and cover the line. The set has to be
+ * the one that the document was made with; another one gives colours that mean nothing. A line that takes too long is one span
+ * in the theme's own style, and the next one is read as if it weren't there. Where a line is refused, the document stands
+ * where it stood; VLS_NO_MEMORY may lose that, and then each line is answered so until vls_doc_reset. */
+int32_t vls_doc_line(vls_doc *doc, vls_set *set, const uint8_t *line, size_t line_size);
+
+/* Puts the document before its first line. */
+int32_t vls_doc_reset(vls_doc *doc, vls_set *set);
+
+/* Copies the spans of the last line, as many as there is room for, and answers how many it has. */
+size_t vls_doc_spans(vls_doc *doc, vls_span *room, size_t room_size);
+
+/* Copies the text that tells why the last call on the document was refused that was. */
+size_t vls_doc_fault(vls_doc *doc, uint8_t *room, size_t room_size);
 
 #ifdef __cplusplus
 }

@@ -9,6 +9,7 @@ import vulsangi
 GRAMMAR = """name: Small
 file_extensions: [sml]
 scope: source.small
+first_line_match: '^let\\b'
 contexts:
   main:
     - match: '\\b(let|in)\\b'
@@ -48,7 +49,20 @@ class Pages(unittest.TestCase):
 
     def test_language_of(self) -> None:
         held = small()
-        self.assertEqual([held.language_of(it) for it in ("a/b.SML", "b.c", "b", "")], ["sml", "txt", "txt", "txt"])
+        self.assertEqual([held.language_of(it) for it in ("a/b.SML", "b.c", "b", "")], ["Small", "txt", "txt", "txt"])
+        self.assertEqual(held.find("b", "let x"), "Small")
+
+    def test_lines(self) -> None:
+        held = small()
+        lines = vulsangi.Lines(held, "sml", "two")
+        for _ in range(2):
+            first, second = lines.line("let é\n")
+            self.assertEqual(first, vulsangi.Span("let", "#ff0000ff", "#ffffffff", True, False, False))
+            self.assertEqual((second.text, second.foreground, second.bold), (" é\n", "#000000ff", False))
+            self.assertEqual(lines.line(""), [])
+            lines.reset()
+        with self.assertRaises(vulsangi.Fault):
+            vulsangi.Lines(held, "none", "two")
 
     def test_refusals(self) -> None:
         held = small()

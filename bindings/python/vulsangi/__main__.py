@@ -34,8 +34,9 @@ def main(words: Optional[List[str]] = None) -> int:
                     print(language.name, *language.extensions, sep="\t")
                 return 0
             data = Path(given.file).read_bytes() if given.file else sys.stdin.buffer.read()
-            language = given.language or held.language_of(given.file or "")
-            shown = held.highlight(data.decode(), language, given.theme, Format[given.format.upper()])
+            text = data.decode()
+            language = given.language or held.language_of(given.file or "", text.partition("\n")[0])
+            shown = held.highlight(text, language, given.theme, Format[given.format.upper()])
     except (Fault, OSError, UnicodeDecodeError) as fault:
         print(f"vulsangi: {fault}", file=sys.stderr)
         return 1

@@ -10,9 +10,21 @@ NAME = "libvulsangi.so"
 
 
 class Handle(ctypes.Structure):
-    """A `vls_set`: full of zeros, it is empty. Its fields aren't read."""
+    """A `vls_set` or a `vls_doc`: full of zeros, it is empty. Its fields aren't read."""
 
     _fields_ = [("vls_at", ctypes.c_void_p), ("vls_full", ctypes.c_bool)]
+
+
+class RawSpan(ctypes.Structure):
+    """A `vls_span`."""
+
+    _fields_ = [
+        ("offset", ctypes.c_size_t),
+        ("length", ctypes.c_size_t),
+        ("foreground", ctypes.c_uint32),
+        ("background", ctypes.c_uint32),
+        ("flags", ctypes.c_uint32),
+    ]
 
 
 def _places() -> List[str]:
@@ -38,12 +50,20 @@ def load() -> ctypes.CDLL:
         "vls_set_link": [handle],
         "vls_set_page": [handle, text, size, text, size, text, size, ctypes.c_uint32],
         "vls_set_languages": [handle],
+        "vls_set_find": [handle, text, size, text, size],
+        "vls_doc_new": [handle, handle, text, size, text, size],
+        "vls_doc_line": [handle, handle, text, size],
+        "vls_doc_reset": [handle, handle],
     }
     for name, types in calls.items():
         call = getattr(library, name)
         call.argtypes, call.restype = types, number
-    for name in ("vls_set_output", "vls_set_fault"):
+    for name in ("vls_set_output", "vls_set_fault", "vls_doc_fault"):
         call = getattr(library, name)
         call.argtypes, call.restype = [handle, ctypes.POINTER(ctypes.c_char), size], size
-    library.vls_set_free.argtypes, library.vls_set_free.restype = [handle], None
+    library.vls_doc_spans.argtypes = [handle, ctypes.POINTER(RawSpan), size]
+    library.vls_doc_spans.restype = size
+    for name in ("vls_set_free", "vls_doc_free"):
+        call = getattr(library, name)
+        call.argtypes, call.restype = [handle], None
     return library

@@ -8,7 +8,7 @@ import threading
 from pathlib import Path
 from typing import Iterable, Iterator, List, NamedTuple, Optional, Sequence, Tuple, Union
 
-from ._library import Handle, load
+from ._library import Handle, RawSpan, load
 
 PathLike = Union[str, "os.PathLike[str]"]
 
@@ -30,6 +30,10 @@ class Fault(Exception):
         self.number = number
 
 
+UNKNOWN_LANGUAGE = 8
+"""The number of a `Fault` where no language has the name that was asked for, or fits a file."""
+
+
 class Language(NamedTuple):
     """A language, with the extensions of its files."""
 
@@ -47,6 +51,22 @@ def _files(folder: PathLike, suffixes: Tuple[str, ...]) -> Iterator[Path]:
     for path in sorted(Path(folder).rglob("*")):
         if path.name.endswith(suffixes) and path.is_file():
             yield path
+
+
+def _bytes(call: str, handle: Handle) -> bytes:
+    """What a call that copies a text out gives, whole."""
+    copy = getattr(_library(), call)
+    room = ctypes.create_string_buffer(1)
+    size = copy(handle, room, 0)
+    room = ctypes.create_string_buffer(size + 1)
+    copy(handle, room, size)
+    return room.raw[:size]
+
+
+def _check(number: int, call: str, handle: Handle) -> None:
+    """Raises a `Fault` where a call was refused, with the words that another call copies out."""
+    if number:
+        raise Fault(number, _bytes(call, handle).decode() or f"refused with {number}")
 
 
 class Set:
@@ -75,20 +95,8 @@ class Set:
         if hasattr(self, "_handle"):
             _library().vls_set_free(self._handle)
 
-    def _bytes(self, call: str) -> bytes:
-        """What one of the two calls that copy a text out gives, whole."""
-        copy = getattr(_library(), call)
-        room = ctypes.create_string_buffer(1)
-        size = copy(self._handle, room, 0)
-        room = ctypes.create_string_buffer(size + 1)
-        copy(self._handle, room, size)
-        return room.raw[:size]
-
     def _told(self, number: int) -> None:
-        """Raises a `Fault` where a call was refused."""
-        if number:
-            message = self._bytes("vls_set_fault").decode()
-            raise Fault(number, message or f"refused with {number}")
+        _check(number, "vls_set_fault", self._handle)
 
     def add_grammar(self, file: str, text: str) -> None:
         """Adds the text of a `.sublime-syntax` file, under the file's name."""
@@ -115,16 +123,25 @@ class Set:
     def languages(self) -> List[Language]:
         """The languages that aren't hidden."""
         self._told(_library().vls_set_languages(self._handle))
-        lines = self._bytes("vls_set_output").decode().split("\n")[:-1]
+        lines = _bytes("vls_set_output", self._handle).decode().split("\n")[:-1]
         split = (line.partition("\t") for line in lines)
         return [Language(name, rest.split(" ") if rest else []) for name, _, rest in split]
 
-    def language_of(self, file: PathLike) -> str:
-        """The language that a file's name asks for, as `highlight` takes it: that of the whole name, as `Makefile`, or
-        else that of its extension, or else plain text. The grammars are linked."""
-        name = Path(file).name.lower()
-        known = {extension.lower() for language in self.languages() for extension in language.extensions}
-        return next((it for it in (name, name.rpartition(".")[2]) if it in known), "txt")
+    def find(self, file: PathLike, line: str = "") -> str:
+        """The name of a text's language: of the one that the name of its file tells, be it the whole name, as `Makefile`,
+        or its extension, or else its first line. The grammars are linked."""
+        name, text = str(file).encode(), line.encode()
+        self._told(_library().vls_set_find(self._handle, name, len(name), text, len(text)))
+        return _bytes("vls_set_output", self._handle).decode()
+
+    def language_of(self, file: PathLike, line: str = "") -> str:
+        """The same, or plain text where neither tells one."""
+        try:
+            return self.find(file, line)
+        except Fault as fault:
+            if fault.number != UNKNOWN_LANGUAGE:
+                raise
+            return "txt"
 
     def highlight(self, code: str, language: str, theme: str, format: Format = Format.HTML) -> str:
         """A text in a language (an extension or a name, whatever its case), shown by a theme."""
@@ -134,7 +151,57 @@ class Set:
                 self._handle, text, len(text), name, len(name), style, len(style), int(format)
             )
         )
-        return self._bytes("vls_set_output").decode()
+        return _bytes("vls_set_output", self._handle).decode()
+
+
+class Span(NamedTuple):
+    """A piece of a line: its text, its colours as `#rrggbbaa`, and its font."""
+
+    text: str
+    foreground: str
+    background: str
+    bold: bool
+    underline: bool
+    italic: bool
+
+
+class Lines:
+    """A text that is read line by line, in a language by a theme. It is read with the set that it was made with."""
+
+    def __init__(self, held: Set, language: str, theme: str) -> None:
+        self._set, self._handle = held, Handle()
+        name, style = language.encode(), theme.encode()
+        held._told(
+            _library().vls_doc_new(self._handle, held._handle, name, len(name), style, len(style))
+        )
+
+    def __del__(self) -> None:
+        if hasattr(self, "_handle"):
+            _library().vls_doc_free(self._handle)
+
+    def _told(self, number: int) -> None:
+        _check(number, "vls_doc_fault", self._handle)
+
+    def line(self, text: str) -> List[Span]:
+        """The pieces of the next line, which is given with its newline: they cover the line. One that takes too long is a
+        piece in the theme's own style."""
+        data = text.encode()
+        self._told(_library().vls_doc_line(self._handle, self._set._handle, data, len(data)))
+        count = _library().vls_doc_spans(self._handle, (RawSpan * 1)(), 0)
+        room = (RawSpan * (count + 1))()
+        _library().vls_doc_spans(self._handle, room, count)
+        return [_span(data, raw) for raw in room[:count]]
+
+    def reset(self) -> None:
+        """Stands before the first line again."""
+        self._told(_library().vls_doc_reset(self._handle, self._set._handle))
+
+
+def _span(line: bytes, raw: RawSpan) -> Span:
+    """A piece of a line."""
+    text = line[raw.offset : raw.offset + raw.length].decode()
+    colours = (f"#{number:08x}" for number in (raw.foreground, raw.background))
+    return Span(text, *colours, *(bool(raw.flags & bit) for bit in (1, 2, 4)))
 
 
 _kept = threading.local()

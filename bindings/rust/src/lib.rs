@@ -3,6 +3,8 @@
 //! A [`SyntaxSetBuilder`] takes grammars and themes, from folders or as texts; the [`SyntaxSet`] that it builds shows
 //! texts: [`highlighted_html_for_string`], [`SyntaxSet::show`]. The library behind it is proved; this wrapper is not.
 
+pub mod easy;
+pub mod highlighting;
 mod raw;
 
 use raw::Handle;
@@ -100,25 +102,25 @@ impl Set {
         Ok(set)
     }
 
-    /// What a call copies out, which answers the whole size.
-    fn copied(&mut self, call: unsafe extern "C" fn(*mut Handle, *mut u8, usize) -> usize) -> String {
-        let mut nothing = [0];
-        let size = unsafe { call(&mut self.0, nothing.as_mut_ptr(), 0) };
-        let mut bytes = vec![0; size];
-        unsafe { call(&mut self.0, bytes.as_mut_ptr(), size) };
-        String::from_utf8_lossy(&bytes).into_owned()
-    }
-
     fn told(&mut self, number: i32) -> Result<(), Error> {
         match number {
             0 => Ok(()),
-            n => Err(Error::Refused(kind_of(n), self.copied(raw::vls_set_fault))),
+            n => Err(Error::Refused(kind_of(n), copied(&mut self.0, raw::vls_set_fault))),
         }
     }
 
     fn output(&mut self) -> String {
-        self.copied(raw::vls_set_output)
+        copied(&mut self.0, raw::vls_set_output)
     }
+}
+
+/// What a call on a handle copies out, which answers the whole size.
+fn copied(handle: &mut Handle, call: unsafe extern "C" fn(*mut Handle, *mut u8, usize) -> usize) -> String {
+    let mut nothing = [0];
+    let size = unsafe { call(handle, nothing.as_mut_ptr(), 0) };
+    let mut bytes = vec![0; size];
+    unsafe { call(handle, bytes.as_mut_ptr(), size) };
+    String::from_utf8_lossy(&bytes).into_owned()
 }
 
 /// Grammars and themes that aren't linked yet.
@@ -205,6 +207,16 @@ impl SyntaxSet {
         let number = unsafe { raw::vls_set_languages(&mut set.0) };
         set.told(number)?;
         Ok(set.output().lines().map(language_of).collect())
+    }
+
+    /// The name of a text's language: of the one that the name of its file tells, or else its first line.
+    pub fn find(&self, file: &str, line: &str) -> Result<String, Error> {
+        let mut set = self.0.borrow_mut();
+        let (file, file_size) = (file.as_ptr(), file.len());
+        let number =
+            unsafe { raw::vls_set_find(&mut set.0, file, file_size, line.as_ptr(), line.len()) };
+        set.told(number)?;
+        Ok(set.output())
     }
 
     /// A text in the language of a token (a file extension or a name, whatever its case), shown by the theme of a name.

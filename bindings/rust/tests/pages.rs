@@ -1,9 +1,12 @@
 //! A page, the languages, and each fault of the calls.
+use vulsangi::easy::HighlightLines;
+use vulsangi::highlighting::{Color, FontStyle};
 use vulsangi::{highlighted_html_for_string, Error, Format, Kind, SyntaxSet, SyntaxSetBuilder};
 
 const GRAMMAR: &str = "name: Small
 file_extensions: [sml]
 scope: source.small
+first_line_match: '^let\\b'
 contexts:
   main:
     - match: '\\b(let|in)\\b'
@@ -53,6 +56,31 @@ fn a_page() {
 fn the_languages() {
     let names: Vec<String> = set().languages().unwrap().into_iter().map(|it| it.name).collect();
     assert_eq!(names, ["Plain Text", "Small"]);
+}
+
+#[test]
+fn a_language_for_a_file() {
+    assert_eq!(set().find("a.sml", "").unwrap(), "Small");
+    assert_eq!(set().find("a", "let x\n").unwrap(), "Small");
+    assert_eq!(kind(set().find("a.c", "x\n")), Kind::UnknownLanguage);
+}
+
+#[test]
+fn lines() {
+    let set = set();
+    let mut lines = HighlightLines::new(&set, "sml", "two").unwrap();
+    for _ in 0..2 {
+        let pieces = lines.highlight_line("let x\n").unwrap();
+        let texts: Vec<&str> = pieces.iter().map(|it| it.1).collect();
+        assert_eq!(texts, ["let", " x\n"]);
+        let style = pieces[0].0;
+        let (r, g, b, a) = (255, 0, 0, 255);
+        assert_eq!(style.foreground, Color { r, g, b, a });
+        assert_eq!(style.font_style, FontStyle::BOLD);
+        assert_eq!(lines.highlight_line("").unwrap(), []);
+        lines.reset().unwrap();
+    }
+    assert_eq!(kind(HighlightLines::new(&set, "none", "two").map(|_| ())), Kind::UnknownLanguage);
 }
 
 #[test]

@@ -2,6 +2,7 @@
 use Rattle.std.proofs.Common.{◌≡◌, ℕ, List, Option, Some, subst}
 use Rattle.syntect_assets.specs.declared.format.Format.{Format}
 use Rattle.syntect_c.specs.Calls.{ShowsAs, ShowsSet, TurnsHeld, format_numbered}
+use Rattle.syntect_c.specs.Finds.{Finds, FindsHeld}
 use Rattle.syntect_c.specs.Sets.{HasLoadedAlone, HoldsLoadedAlone, IsLoadedStage, ShowsStage}
 use Rattle.syntect_easy.specs.Loaded.{IsOfLoaded}
 use Rattle.syntect_c.specs.declared.set.SetContent.{SetContent}
@@ -26,6 +27,12 @@ pub shows_held : (text language theme : List ℕ) (number : ℕ) (held : Option 
     → ShowsSet text language theme number held
 shows_held text language theme number held content is shows =
     record { content = content; held_is = is; shows = shows }
+
+-- what a handle holds finds it
+pub finds_held : (file line : List ℕ) (held : Option SetContent) (content : SetContent)
+    → held ≡ Some content → Finds file line content → FindsHeld file line held
+finds_held file line held content is finds =
+    record { content = content; held_is = is; finds = finds }
 
 -- what a handle holds of loaded grammars is a set of them
 pub loaded_in : (held : Option SetContent) (content : SetContent) → held ≡ Some content

@@ -4,6 +4,7 @@
 //! holds a whole set or nothing. A call answers 0, or the number of a `Kind`.
 ghost use Rattle.std.specs.Prelude.{◌≡◌, ◌↔◌, ◌++◌, length, take, drop, None, Some, IfOk, IsSome, OnOk, box_value, pos};
 ghost use Rattle.syntect_c.specs.Calls.{AddsGrammarHeld, AddsThemeHeld, ShowsAs, ShowsSet, fault_in, format_numbered, output_in};
+ghost use Rattle.syntect_c.specs.Finds.{Finds, FindsHeld};
 ghost use Rattle.syntect_c.specs.Sets.{AddsGrammarTo, AddsThemeTo, HasLoadedAlone, HoldsLoadedAlone};
 
 use crate::handle::Slot;
@@ -116,6 +117,26 @@ fn theme(alloc: Global, content: &mut SetContent, name: &[u8], bytes: &[u8]) -> 
     ensures loaded { HoldsLoadedAlone content.old → HoldsLoadedAlone content.new }
 {
     match add_theme(alloc, content, name, bytes) {
+        Ok(()) => 0,
+        Err(refusal) => content.tell(alloc, refusal),
+    }
+}
+
+/// Finds the language of a text.
+fn find(alloc: Global, content: &mut SetContent, file: &[u8], line: &[u8]) -> Result<(), Refusal>
+    ensures loaded { HoldsLoadedAlone content.old → HoldsLoadedAlone content.new }
+    ensures found { OnOk result (Finds file.now line.now content.new) }
+{
+    let (file, line) = (text_of(file)?, text_of(line)?);
+    content.find(alloc, file, line)
+}
+
+/// Finds the language of a text, and answers the number for C.
+fn language(alloc: Global, content: &mut SetContent, file: &[u8], line: &[u8]) -> i32
+    ensures loaded { HoldsLoadedAlone content.old → HoldsLoadedAlone content.new }
+    ensures found { result ≡ pos 0 → Finds file.now line.now content.new }
+{
+    match find(alloc, content, file, line) {
         Ok(()) => 0,
         Err(refusal) => content.tell(alloc, refusal),
     }
@@ -248,6 +269,25 @@ pub extern "C" fn vls_set_languages(set: &mut Slot, alloc: Global) -> i32
         Some(mut content) => {
             let answer = content.list_languages(alloc);
             let number = content.told(alloc, answer);
+            *set = Slot::of(content);
+            number
+        }
+    }
+}
+
+/// Finds the language of a text, by the name of its file or else by its first line: the output is
+/// the language's name.
+#[tactic(auto, using(crate::proofs::CallLaws::finds_held))]
+#[unsafe(no_mangle)]
+pub extern "C" fn vls_set_find(set: &mut Slot, alloc: Global, file: &[u8], line: &[u8]) -> i32
+    ensures loaded { HasLoadedAlone set.old.handle.held → HasLoadedAlone set.new.handle.held }
+    ensures stays { IsSome set.new.handle.held ↔ IsSome set.old.handle.held }
+    ensures found { result ≡ pos 0 → FindsHeld file.now line.now set.new.handle.held }
+{
+    match mem::replace(set, Slot::empty(alloc)).take() {
+        None => Kind::Empty.number(),
+        Some(mut content) => {
+            let number = language(alloc, &mut content, file, line);
             *set = Slot::of(content);
             number
         }

@@ -3,9 +3,14 @@
 #![tactic(auto)]
 
 pub mod calls;
+pub mod doc_calls;
+pub mod doc_handle;
+pub mod document;
+pub mod finds;
 pub mod handle;
 pub mod kind;
 pub mod parts;
 pub mod refusal;
 pub mod set;
+pub mod span;
 pub mod texts;

@@ -4,8 +4,10 @@ ghost use Rattle.std.specs.Path.{path_file_stem};
 ghost use Rattle.syntect_assets.specs.syntect_grammar_limits.Limited.{LoadsWithin, left_of};
 ghost use Rattle.syntect_assets.specs.syntect_grammar_loader.Loading.{loaded};
 ghost use Rattle.syntect_easy.specs.Loaded.{HoldsLoaded, IsOfLoaded};
+ghost use Rattle.syntect_c.specs.Finds.{Finds};
 ghost use Rattle.syntect_c.specs.Sets.{AddsGrammar, AddsGrammarTo, AddsTheme, AddsThemeTo, HoldsLoadedAlone, IsShown, ShowsStage};
 
+use crate::finds::language_of;
 use crate::kind::Kind;
 use crate::refusal::Refusal;
 use std::alloc::{AllocError, Global};
@@ -255,6 +257,26 @@ impl SetContent {
             self.output = languages_of(alloc, assets)?;
         }
         Ok(())
+    }
+
+    /// Keeps the name of a text's language as the output: of the language that the name of its file
+    /// tells, or else its first line.
+    pub fn find(&mut self, alloc: Global, file: &str, line: &str) -> Result<(), Refusal>
+        ensures loaded { HoldsLoadedAlone self.old → HoldsLoadedAlone self.new }
+        ensures found { OnOk result (Finds file.now line.now self.new) }
+    {
+        self.link(alloc)?;
+        let found = match &self.stage {
+            Stage::Linked(assets) => language_of(alloc, assets, file, line)?,
+            _ => return Err(Refusal::of(Kind::Memory)),
+        };
+        match found {
+            Some(syntax) => {
+                self.output = String::from_str(alloc, syntax.name.as_str())?;
+                Ok(())
+            }
+            None => Err(Refusal::of(Kind::Language)),
+        }
     }
 
     /// Keeps the text of a refusal, and answers its number for C.

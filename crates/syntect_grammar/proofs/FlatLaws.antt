@@ -10,7 +10,7 @@ use Rattle.std.proofs.lemmas.List.{get_or_past}
 use Rattle.std.proofs.lemmas.List.Elements.{All-append, All-cons, All-nil, filter_map-append}
 use Rattle.std.proofs.lemmas.Option.{get_or_from_slice_get, slice_get-get_or, unwrap_or-slice_get}
 use Rattle.syntect_grammar.specs.syntect_pattern_table.Starts.{is_in}
-use Rattle.syntect_grammar.specs.syntect_regex.Begins.{BeginsAtEdges, NoneBeginsBefore, NoneBeginsOutside}
+use Rattle.syntect_grammar.specs.syntect_regex.Begins.{BeginsAtEdges, BeginsAtLines, NoneBeginsBefore, NoneBeginsOutside}
 use Rattle.syntect_grammar.specs.syntect_grammar_contexts.Contexts.{is_same, match_in, match_of, target}
 use Rattle.syntect_grammar.specs.Contexts.{context_at, set_of, syntaxes_in}
 use Rattle.syntect_grammar.specs.Flats.{AreFlatsOf, AreListsOf, IsOpen, IsTableOf, Tells, flats_at, pattern_at}
@@ -65,10 +65,10 @@ module _ (set : SyntaxSet) (flat : Flat) (id : ContextId) (k : ℕ) (m : MatchPa
 
   pub tells_more : (flats after : List Flat) → after ≡ flats ++ flat ∷ [] → flat.has_captures ≡ m.has_captures → NoneBeginsOutside flat.begins m.regex
       → NoneBeginsBefore false flat.words m.regex → NoneBeginsBefore true flat.blanks m.regex → (flat.at_edges ≡ true → BeginsAtEdges m.regex)
-      → (flat.has_captures ≡ true → IsOpen flat) → All (Tells set) flats → All (Tells set) after
-  tells_more flats after g c b f k a o t =
+      → (flat.at_lines ≡ true → BeginsAtLines m.regex) → (flat.has_captures ≡ true → IsOpen flat) → All (Tells set) flats → All (Tells set) after
+  tells_more flats after g c b f k a v o t =
       let tells : Tells set flat =
-      subst (λ (o : Option MatchPattern). IfSome o (λ (x : MatchPattern). (flat.has_captures ≡ x.has_captures) × NoneBeginsOutside flat.begins x.regex × NoneBeginsBefore false flat.words x.regex × NoneBeginsBefore true flat.blanks x.regex × (flat.at_edges ≡ true → BeginsAtEdges x.regex) × (flat.has_captures ≡ true → IsOpen flat))) (sym found_there) (c, b, f, k, a, o) in
+      subst (λ (o : Option MatchPattern). IfSome o (λ (x : MatchPattern). (flat.has_captures ≡ x.has_captures) × NoneBeginsOutside flat.begins x.regex × NoneBeginsBefore false flat.words x.regex × NoneBeginsBefore true flat.blanks x.regex × (flat.at_edges ≡ true → BeginsAtEdges x.regex) × (flat.at_lines ≡ true → BeginsAtLines x.regex) × (flat.has_captures ≡ true → IsOpen flat))) (sym found_there) (c, b, f, k, a, v, o) in
       subst (All (Tells set)) (sym g) (All-append (Tells set) flats (flat ∷ []) t (All-cons (Tells set) flat [] tells (All-nil (Tells set))))
 
 -- ---- tables ----
@@ -183,7 +183,7 @@ module _ (set : SyntaxSet) where
   same_place old new c = ap (λ (i : ContextId). stands_at set i new.index) c.context ∙ ap (stands_at set old.context) c.index
 
   abbrev TellsOf : Flat → MatchPattern → Type 0
-  TellsOf flat m = (flat.has_captures ≡ m.has_captures) × NoneBeginsOutside flat.begins m.regex × NoneBeginsBefore false flat.words m.regex × NoneBeginsBefore true flat.blanks m.regex × (flat.at_edges ≡ true → BeginsAtEdges m.regex) × (flat.has_captures ≡ true → IsOpen flat)
+  TellsOf flat m = (flat.has_captures ≡ m.has_captures) × NoneBeginsOutside flat.begins m.regex × NoneBeginsBefore false flat.words m.regex × NoneBeginsBefore true flat.blanks m.regex × (flat.at_edges ≡ true → BeginsAtEdges m.regex) × (flat.at_lines ≡ true → BeginsAtLines m.regex) × (flat.has_captures ≡ true → IsOpen flat)
 
   held : (a b : Bool) → (b ≡ false → a ≡ false) → a ≡ true → b ≡ true
   held a true h e = refl
@@ -199,6 +199,7 @@ module _ (set : SyntaxSet) where
     words = λ x. held (is_in old.words x) (is_in new.words x) (c.words x) (o.words x);
     blanks = λ x. held (is_in old.blanks x) (is_in new.blanks x) (c.blanks x) (o.blanks x);
     edges = not_held old.at_edges new.at_edges c.at_edges o.edges;
+    lines = not_held old.at_lines new.at_lines c.at_lines o.lines;
   }
 
   tells_coarser : (old new : Flat) → IsCoarser old new → Tells set old → Tells set new
@@ -210,7 +211,8 @@ module _ (set : SyntaxSet) where
         λ s utf8 place end run e. h.2 s utf8 place end run (c.words _ e),
         λ s utf8 place end run e. h.3 s utf8 place end run (c.blanks _ e),
         λ e. h.4 (c.at_edges e),
-        λ e. open_coarser old new c (h.5 (sym c.has_captures ∙ e)),
+        λ e. h.5 (c.at_lines e),
+        λ e. open_coarser old new c (h.6 (sym c.has_captures ∙ e)),
       )) (pattern_at set old) t)
 
   same_patterns_at : (old new : List Flat) → AreCoarser old new → filter_map (pattern_at set) new ≡ filter_map (pattern_at set) old

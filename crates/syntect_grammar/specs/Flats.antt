@@ -3,7 +3,7 @@ use Rattle.std.specs.Prelude.{◌≡◌, ℕ, ◌<◌, ◌≤◌, true, false, L
 use Rattle.std.specs.List.{All, filter_map}
 use Rattle.std.specs.Option.{option_and_then}
 use Rattle.syntect_grammar.specs.syntect_pattern_table.Starts.{is_in}
-use Rattle.syntect_grammar.specs.syntect_regex.Begins.{BeginsAtEdges, NoneBeginsBefore, NoneBeginsOutside}
+use Rattle.syntect_grammar.specs.syntect_regex.Begins.{BeginsAtEdges, BeginsAtLines, NoneBeginsBefore, NoneBeginsOutside}
 use Rattle.syntect_grammar.specs.syntect_grammar_contexts.Contexts.{match_of}
 use Rattle.syntect_grammar.specs.Contexts.{context_at}
 use Rattle.syntect_grammar.specs.Patterns.{patterns_of}
@@ -23,6 +23,7 @@ pub record IsOpen (flat : Flat) : Type 0 where
   pub words : (x : ℕ) → is_in flat.words x ≡ true
   pub blanks : (x : ℕ) → is_in flat.blanks x ≡ true
   pub edges : flat.at_edges ≡ false
+  pub lines : flat.at_lines ≡ false
 
 -- What is kept of the pattern at the place is true of it; and of one with back references into an
 -- opening match, in place of which something else is searched, nothing is known.
@@ -32,6 +33,7 @@ Tells set flat =
     (λ m. (flat.has_captures ≡ m.has_captures) × NoneBeginsOutside flat.begins m.regex
     × NoneBeginsBefore false flat.words m.regex × NoneBeginsBefore true flat.blanks m.regex
     × (flat.at_edges ≡ true → BeginsAtEdges m.regex)
+    × (flat.at_lines ≡ true → BeginsAtLines m.regex)
     × (flat.has_captures ≡ true → IsOpen flat))
 
 -- Each test finds the same first pattern at these places as in the context's walk, there are no

@@ -6,7 +6,7 @@ ghost use Rattle.syntect_grammar.specs.Contexts.{context_at, set_of};
 ghost use Rattle.syntect_grammar.specs.Flats.{AreFlatsOf, AreListsOf, IsOpen, IsTableOf};
 ghost use Rattle.syntect_grammar.specs.Patterns.{entries};
 ghost use Rattle.syntect_grammar.specs.Walk.{at_first, entering};
-ghost use Rattle.syntect_grammar.specs.syntect_regex.Begins.{BeginsAtEdges, NoneBeginsBefore, NoneBeginsOutside};
+ghost use Rattle.syntect_grammar.specs.syntect_regex.Begins.{BeginsAtEdges, BeginsAtLines, NoneBeginsBefore, NoneBeginsOutside};
 
 use crate::below::grammar_contexts::syntax_reference::SyntaxReference;
 use crate::below::pattern_table::starts::anywhere;
@@ -20,8 +20,7 @@ use syntect_grammar_lists::list::FlatList;
 /// The flat lists of contexts, by syntax and place in that: none of one whose walk was given up.
 pub(crate) type FlatTable = Seq<Seq<Option<FlatList>>>;
 
-/// How many steps an entry the walks of a syntax may take before no more lists are kept: ten times
-/// what written grammars take, as a long row of includes would ask for the square of its length.
+/// How many steps an entry the walks of a syntax may take: ten times what written grammars do.
 const STEPS_AN_ENTRY: usize = 64;
 
 /// A context that is walked, and the index of the next of its entries.
@@ -69,6 +68,7 @@ fn open_flat(context: ContextId, index: usize) -> Flat
         words: anywhere(),
         blanks: anywhere(),
         at_edges: false,
+        at_lines: false,
         context,
         index,
         has_captures: true,
@@ -84,6 +84,7 @@ fn flat_of(context: ContextId, index: usize, m: &MatchPattern) -> Flat
     ensures words { NoneBeginsBefore false result.words m.now.regex }
     ensures blanks { NoneBeginsBefore true result.blanks m.now.regex }
     ensures edges { result.at_edges ≡ true → BeginsAtEdges m.now.regex }
+    ensures lines { result.at_lines ≡ true → BeginsAtLines m.now.regex }
     ensures untold { result.has_captures ≡ true → IsOpen result }
 {
     if m.has_captures {
@@ -94,6 +95,7 @@ fn flat_of(context: ContextId, index: usize, m: &MatchPattern) -> Flat
         words: m.regex.behind_words(),
         blanks: m.regex.behind_blanks(),
         at_edges: m.regex.begins_at_edges(),
+        at_lines: m.regex.begins_at_lines(),
         context,
         index,
         has_captures: false,
@@ -184,8 +186,7 @@ impl Walker {
         self.enter(id)
     }
 
-    /// Walks a context, which stands on its own include path, far enough to find the first pattern
-    /// that passes a test: repeated ones may be left out. `false` where counted steps run out.
+    /// Walks a context on its own include path, each pattern once. `false`: no steps were left.
     fn walk(
         &mut self,
         syntaxes: &[SyntaxReference],

@@ -11,7 +11,7 @@ use Rattle.std.proofs.Math.Pow.{pow_mono}
 use Rattle.std.proofs.lemmas.Nat.Bits.{bit_at-lt, bit_at-zero, bit_at_and, bit_at_cat_low, bit_at_ones, bit_at_or, bit_at_set_same, bit_at-trailing_zeros}
 use Rattle.syntect_grammar_lists.specs.syntect_pattern_table.Starts.{is_in}
 use Rattle.syntect_grammar_lists.specs.syntect_pattern_table.declared.starts.Places.{Places}
-use Rattle.syntect_grammar_lists.specs.Rows.{AreRowsOf, IsOut, KeepsBits, TellsAlive, TellsEdges, TellsSide, behind_of, behind_row, bit_of, has_bit, side_behind}
+use Rattle.syntect_grammar_lists.specs.Rows.{AreRowsOf, IsOut, KeepsBits, TellsAlive, TellsEdges, TellsLines, TellsSide, behind_of, behind_row, bit_of, has_bit, side_behind}
 use Rattle.syntect_grammar_lists.specs.Sides.{first_row, places_on}
 use Rattle.syntect_grammar_lists.specs.declared.flats.Flat.{Flat}
 use Rattle.syntect_grammar_lists.specs.declared.flats.Outlook.{Outlook}
@@ -151,6 +151,9 @@ side_kept side old new words flats k h x i d l m e = k ((first_row side + x) * w
 pub edges_kept : (old new : List ℕ) (words : ℕ) (flats : List Flat) → KeepsBits old new → TellsEdges old words flats → TellsEdges new words flats
 edges_kept old new words flats k h i d m e = k (130 * words + i / 64) (i % 64) (h i d m e)
 
+pub lines_kept : (old new : List ℕ) (words : ℕ) (flats : List Flat) → KeepsBits old new → TellsLines old words flats → TellsLines new words flats
+lines_kept old new words flats k h i d m e = k (131 * words + i / 64) (i % 64) (h i d m e)
+
 pub all_sides : (rows : List ℕ) (words : ℕ) (flats : List Flat) → TellsSide Side.Here rows words flats → TellsSide Side.Word rows words flats → TellsSide Side.Blank rows words flats
     → (side : Side) → TellsSide side rows words flats
 all_sides rows words flats h w b Side.Here = h
@@ -158,10 +161,11 @@ all_sides rows words flats h w b Side.Word = w
 all_sides rows words flats h w b Side.Blank = b
 
 pub rows_kept : (rows part : List ℕ) (words : ℕ) (flats : List Flat) → take (length part) rows ≡ part
-    → ((side : Side) → TellsSide side rows words flats) → TellsEdges rows words flats → AreRowsOf part words flats
-rows_kept rows part words flats e s t = record {
+    → ((side : Side) → TellsSide side rows words flats) → TellsEdges rows words flats → TellsLines rows words flats → AreRowsOf part words flats
+rows_kept rows part words flats e s t v = record {
   sides = λ side x k d l m i. part_kept rows part ((first_row side + x) * words + k / 64) (k % 64) e (omega arith) (s side x k d l m i);
   edges = λ k d m i. part_kept rows part (130 * words + k / 64) (k % 64) e (omega arith) (t k d m i);
+  lines = λ k d m i. part_kept rows part (131 * words + k / 64) (k % 64) e (omega arith) (v k d m i);
 }
 
 -- ---- which patterns can begin where this is seen ----
@@ -182,6 +186,9 @@ side_out side rows words flats h x k d l m e = is_false (is_in (places_on side (
 edges_out : (rows : List ℕ) (words : ℕ) (flats : List Flat) → TellsEdges rows words flats → (k : ℕ) (d : Flat) → k < length flats → bit_of rows words 130 k ≡ false → (get_or flats k d).at_edges ≡ true
 edges_out rows words flats h k d m e = is_true (get_or flats k d).at_edges (λ f. sym (h k d m f) ∙ e)
 
+lines_out : (rows : List ℕ) (words : ℕ) (flats : List Flat) → TellsLines rows words flats → (k : ℕ) (d : Flat) → k < length flats → bit_of rows words 131 k ≡ false → (get_or flats k d).at_lines ≡ true
+lines_out rows words flats h k d m e = is_true (get_or flats k d).at_lines (λ f. sym (h k d m f) ∙ e)
+
 one_is_zero : (m n : ℕ) → m < 2 → n < 2 → min m n ≡ 0 → (m ≡ 0) ⊎ (n ≡ 0)
 one_is_zero m n l k e = elim (cases_lt m 1) [
   | inl p ↦ inl (omega (arith, p))
@@ -192,6 +199,34 @@ one_is_zero m n l k e = elim (cases_lt m 1) [
 pub clear_in_one : (a b i : ℕ) → bit_at (bit_and a b) i ≡ 0 → (bit_at a i ≡ 0) ⊎ (bit_at b i ≡ 0)
 clear_in_one a b i e = one_is_zero (bit_at a i) (bit_at b i) (bit_at-lt a i) (bit_at-lt b i) (sym (bit_at_and a b i) ∙ e)
 
+module _ (rows : List ℕ) (words : ℕ) (o : Outlook) (word : ℕ) where
+  module _ (flats : List Flat) (i : ℕ) (d : Flat) (r : AreRowsOf rows words flats) (l : i < 64) (inside : word * 64 + i < length flats) where
+    -- its bit in a row is this one
+    cleared : (row found : ℕ) → found ≡ get_or rows (row * words + word) 18446744073709551615 → bit_at found i ≡ 0 → bit_of rows words row (word * 64 + i) ≡ false
+    cleared row found f z =
+        let part : (word * 64 + i) / 64 ≡ word = omega (arith, l) in
+        let rest : (word * 64 + i) % 64 ≡ i = omega (arith, l) in
+        ap (λ q. bit_at (get_or rows (row * words + q) 18446744073709551615) ((word * 64 + i) % 64) == 1) part ∙ ap (λ q. bit_at (get_or rows (row * words + word) 18446744073709551615) q == 1) rest
+        ∙ ap (λ q. bit_at q i == 1) (sym f) ∙ ap (λ q. q == 1) z
+
+    by_edges : (edges : ℕ) → edges ≡ get_or rows (130 * words + word) 18446744073709551615 → o.off_edges ≡ true → bit_at edges i ≡ 0 → IsOut o (get_or flats (word * 64 + i) d)
+    by_edges edges e f z = inr (inr (inl (f, edges_out rows words flats r.edges (word * 64 + i) d inside (cleared 130 edges e z))))
+
+    by_lines : (lines : ℕ) → lines ≡ get_or rows (131 * words + word) 18446744073709551615 → o.off_lines ≡ true → bit_at lines i ≡ 0 → IsOut o (get_or flats (word * 64 + i) d)
+    by_lines lines e f z = inr (inr (inr (f, lines_out rows words flats r.lines (word * 64 + i) d inside (cleared 131 lines e z))))
+
+  pub tells_off_edges : (inner edges : ℕ) → TellsAlive rows words o word inner → edges ≡ get_or rows (130 * words + word) 18446744073709551615 → o.off_edges ≡ true → TellsAlive rows words o word (bit_and inner edges)
+  tells_off_edges inner edges t e f flats i d r l inside z = elim (clear_in_one inner edges i z) [
+    | inl p ↦ t flats i d r l inside p
+    | inr q ↦ by_edges flats i d r l inside edges e f q
+  ]
+
+  pub tells_off_lines : (inner lines : ℕ) → TellsAlive rows words o word inner → lines ≡ get_or rows (131 * words + word) 18446744073709551615 → o.off_lines ≡ true → TellsAlive rows words o word (bit_and inner lines)
+  tells_off_lines inner lines t e f flats i d r l inside z = elim (clear_in_one inner lines i z) [
+    | inl p ↦ t flats i d r l inside p
+    | inr q ↦ by_lines flats i d r l inside lines e f q
+  ]
+
 module _ (rows : List ℕ) (words : ℕ) (o : Outlook) (word here behind : ℕ) (low : o.here < 130) (bound : o.behind < 130)
     (h : here ≡ get_or rows (o.here * words + word) 18446744073709551615) (c : behind ≡ get_or rows (behind_row o * words + word) 18446744073709551615) where
   module _ (flats : List Flat) (i : ℕ) (d : Flat) (r : AreRowsOf rows words flats) (l : i < 64) (inside : word * 64 + i < length flats) where
@@ -201,17 +236,9 @@ module _ (rows : List ℕ) (words : ℕ) (o : Outlook) (word here behind : ℕ) 
     abbrev flat : Flat
     flat = get_or flats at d
 
-    part : at / 64 ≡ word
-    part = omega (arith, l)
-
-    rest : at % 64 ≡ i
-    rest = omega (arith, l)
-
     -- its bit in a row is this one
     clear : (row found : ℕ) → found ≡ get_or rows (row * words + word) 18446744073709551615 → bit_at found i ≡ 0 → bit_of rows words row at ≡ false
-    clear row found f z =
-        ap (λ q. bit_at (get_or rows (row * words + q) 18446744073709551615) (at % 64) == 1) part ∙ ap (λ q. bit_at (get_or rows (row * words + word) 18446744073709551615) q == 1) rest
-        ∙ ap (λ q. bit_at q i == 1) (sym f) ∙ ap (λ q. q == 1) z
+    clear row found f z = cleared rows words o word flats i d r l inside row found f z
 
     by_here : bit_at here i ≡ 0 → IsOut o flat
     by_here z =
@@ -228,9 +255,6 @@ module _ (rows : List ℕ) (words : ℕ) (o : Outlook) (word here behind : ℕ) 
         kind false f = ap (λ t. is_in (behind_of t flat) o.behind) f ∙ on_side Side.Word (ap (λ t. if t then Side.Blank else Side.Word) f)
         kind true f = ap (λ t. is_in (behind_of t flat) o.behind) f ∙ on_side Side.Blank (ap (λ t. if t then Side.Blank else Side.Word) f)
 
-    by_edges : (edges : ℕ) → edges ≡ get_or rows (130 * words + word) 18446744073709551615 → o.off_edges ≡ true → bit_at edges i ≡ 0 → IsOut o flat
-    by_edges edges e f z = inr (inr (f, edges_out rows words flats r.edges at d inside (clear 130 edges e z)))
-
     by_both : bit_at (bit_and here behind) i ≡ 0 → IsOut o flat
     by_both z = elim (clear_in_one here behind i z) [
       | inl p ↦ by_here p
@@ -239,12 +263,6 @@ module _ (rows : List ℕ) (words : ℕ) (o : Outlook) (word here behind : ℕ) 
 
   pub tells_within : TellsAlive rows words o word (bit_and here behind)
   tells_within flats i d r l inside z = by_both flats i d r l inside z
-
-  pub tells_off_edges : (edges : ℕ) → edges ≡ get_or rows (130 * words + word) 18446744073709551615 → o.off_edges ≡ true → TellsAlive rows words o word (bit_and (bit_and here behind) edges)
-  tells_off_edges edges e f flats i d r l inside z = elim (clear_in_one (bit_and here behind) edges i z) [
-    | inl p ↦ by_both flats i d r l inside p
-    | inr q ↦ by_edges flats i d r l inside edges e f q
-  ]
 
 -- ---- runs of bits that aren't set ----
 

@@ -35,6 +35,7 @@ slim_stays old new flat slim s h = record {
   words = s slim.words flat.words h.words;
   blanks = s slim.blanks flat.blanks h.blanks;
   at_edges = h.at_edges;
+  at_lines = h.at_lines;
   syntax = h.syntax;
   context = h.context;
   index = h.index;
@@ -46,7 +47,7 @@ slim_widens table flat slim h =
     let begins : places_at table slim.begins ≡ flat.begins = get_or_from_slice_get table slim.begins flat.begins nothing h.begins in
     let words : places_at table slim.words ≡ flat.words = get_or_from_slice_get table slim.words flat.words nothing h.words in
     let blanks : places_at table slim.blanks ≡ flat.blanks = get_or_from_slice_get table slim.blanks flat.blanks nothing h.blanks in
-    rw (begins, words, blanks, h.at_edges, h.syntax, h.context, h.index, h.has_captures) refl
+    rw (begins, words, blanks, h.at_edges, h.at_lines, h.syntax, h.context, h.index, h.has_captures) refl
 
 -- each pattern is kept so
 abbrev pub AreSlimsOf : List Places → List Flat → List Slim → Type 0

@@ -156,6 +156,7 @@ module _ (any : Places) (rows : List ℕ) (words : ℕ) where
       sides = λ side x k d l m e.
           side_so k (get_or spots k (spot_of d)) side x l (ap (λ f. is_in (places_on side f) x) (sym (told_first k spots (spot_of d) d m)) ∙ e);
       edges = λ k d m e. not-false (bit_of rows words 130 k) (ap (λ f. f.at_edges) (sym (told_first k spots (spot_of d) d m)) ∙ e);
+      lines = λ k d m e. not-false (bit_of rows words 131 k) (ap (λ f. f.at_lines) (sym (told_first k spots (spot_of d) d m)) ∙ e);
     }
 
   -- ---- less exact than what they were made of ----
@@ -174,6 +175,9 @@ module _ (any : Places) (rows : List ℕ) (words : ℕ) where
       edges_less : not (bit_of rows words 130 k) ≡ true → old.at_edges ≡ true
       edges_less e = is_true (old.at_edges) (λ f. sym (r.edges k d inside f) ∙ not-true (bit_of rows words 130 k) e)
 
+      lines_less : not (bit_of rows words 131 k) ≡ true → old.at_lines ≡ true
+      lines_less e = is_true (old.at_lines) (λ f. sym (r.lines k d inside f) ∙ not-true (bit_of rows words 131 k) e)
+
       coarser_at : IsCoarser old (told_at any rows words k (spot_of old))
       coarser_at = record {
         context = refl;
@@ -183,6 +187,7 @@ module _ (any : Places) (rows : List ℕ) (words : ℕ) where
         words = holds_more old.words _ (λ x l e. side_out Side.Word rows words flats (r.sides Side.Word) x k d l inside (sym (in_where (is_told Side.Word rows words k) x l) ∙ e));
         blanks = holds_more old.blanks _ (λ x l e. side_out Side.Blank rows words flats (r.sides Side.Blank) x k d l inside (sym (in_where (is_told Side.Blank rows words k) x l) ∙ e));
         at_edges = edges_less;
+        at_lines = lines_less;
       }
 
     pub told_coarser : (spots : List Spot) → spots ≡ map spot_of flats → AreCoarser flats (told 0 spots)
@@ -206,6 +211,7 @@ same_flat f = record {
   words = λ x e. e;
   blanks = λ x e. e;
   at_edges = λ e. e;
+  at_lines = λ e. e;
 }
 
 pub keeps_plain : (flats : List Flat) (slims : Vec Slim) (places : Vec Places) → map (widened places.items) slims.items ≡ flats → KeepsAll flats (Form.Plain slims places)

@@ -4,7 +4,7 @@ use Rattle.std.specs.Int.{bit_at}
 use Rattle.syntect_grammar_lists.specs.syntect_pattern_table.Starts.{is_in}
 use Rattle.syntect_grammar_lists.specs.syntect_pattern_table.declared.starts.Places.{Places}
 use Rattle.syntect_grammar_lists.specs.Packed.{IsPacked, unpacked}
-use Rattle.syntect_grammar_lists.specs.Sides.{edges_row, first_row, places_on}
+use Rattle.syntect_grammar_lists.specs.Sides.{edges_row, first_row, lines_row, places_on}
 use Rattle.syntect_grammar_lists.specs.declared.flats.Flat.{Flat}
 use Rattle.syntect_grammar_lists.specs.declared.flats.Outlook.{Outlook}
 use Rattle.syntect_grammar_lists.specs.declared.packed.Packed.{Packed}
@@ -15,10 +15,11 @@ abbrev pub behind_of : Bool → Flat → Places
 behind_of blank flat = if blank then flat.blanks else flat.words
 
 -- the pattern has no match that begins where this is seen after the run,
--- or where no word begins or ends
+-- or where no word begins or ends, or no line begins
 abbrev pub IsCut : Outlook → Flat → Type 0
 IsCut o flat = (is_in (behind_of o.blank flat) o.behind ≡ false)
-    ⊎ ((o.off_edges ≡ true) × (flat.at_edges ≡ true))
+    ⊎ (((o.off_edges ≡ true) × (flat.at_edges ≡ true))
+    ⊎ ((o.off_lines ≡ true) × (flat.at_lines ≡ true)))
 
 -- no match of the pattern begins where this is seen
 abbrev pub IsOut : Outlook → Flat → Type 0
@@ -52,10 +53,17 @@ abbrev pub TellsEdges : List ℕ → ℕ → List Flat → Type 0
 TellsEdges rows words flats = (k : ℕ) (d : Flat) → k < length flats
     → (slice_index_or flats k d).at_edges ≡ false → bit_of rows words edges_row k ≡ true
 
+-- each pattern whose matches can begin where no line begins has its bit set in the row of such
+-- places
+abbrev pub TellsLines : List ℕ → ℕ → List Flat → Type 0
+TellsLines rows words flats = (k : ℕ) (d : Flat) → k < length flats
+    → (slice_index_or flats k d).at_lines ≡ false → bit_of rows words lines_row k ≡ true
+
 -- each pattern whose matches can begin at a place has its bit set in all rows of what is seen there
 pub record AreRowsOf (rows : List ℕ) (words : ℕ) (flats : List Flat) : Type 0 where
   pub sides : (side : Side) → TellsSide side rows words flats
   pub edges : TellsEdges rows words flats
+  pub lines : TellsLines rows words flats
 
 -- The table tells of the patterns which of them can begin where something is seen.
 pub record IsTabled (table : Packed) (words : ℕ) (flats : List Flat) : Type 0 where

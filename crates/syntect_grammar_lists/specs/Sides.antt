@@ -8,11 +8,15 @@ use Rattle.syntect_grammar_lists.specs.declared.sides.Side.{Side}
 abbrev pub edges_row : ℕ
 edges_row = 130
 
+-- the row of places where no line begins
+abbrev pub lines_row : ℕ
+lines_row = 131
+
 -- the first of the rows that are of a side
 abbrev pub first_row : Side → ℕ
 first_row Side.Here = 0
-first_row Side.Word = 131
-first_row Side.Blank = 261
+first_row Side.Word = 132
+first_row Side.Blank = 262
 
 -- ---- What invariants alone rest on ----
 

@@ -24,6 +24,7 @@ widened table slim = record {
   words = places_at table slim.words;
   blanks = places_at table slim.blanks;
   at_edges = slim.at_edges;
+  at_lines = slim.at_lines;
   context = record { syntax_index = slim.syntax; context_index = slim.context };
   index = slim.index;
   has_captures = slim.has_captures;
@@ -37,6 +38,7 @@ pub record IsSlimOf (table : List Places) (flat : Flat) (slim : Slim) : Type 0 w
   pub words : slice_get table slim.words ≡ Some flat.words
   pub blanks : slice_get table slim.blanks ≡ Some flat.blanks
   pub at_edges : slim.at_edges ≡ flat.at_edges
+  pub at_lines : slim.at_lines ≡ flat.at_lines
   pub syntax : slim.syntax ≡ flat.context.syntax_index
   pub context : slim.context ≡ flat.context.context_index
   pub index : slim.index ≡ flat.index

@@ -4,7 +4,7 @@ use Rattle.syntect_grammar_lists.specs.syntect_pattern_table.Starts.{is_in}
 use Rattle.syntect_grammar_lists.specs.syntect_pattern_table.declared.starts.Places.{Places}
 use Rattle.syntect_grammar_lists.specs.Packed.{unpacked}
 use Rattle.syntect_grammar_lists.specs.Rows.{BeginIn, IsTabled, bit_of}
-use Rattle.syntect_grammar_lists.specs.Sides.{edges_row, first_row}
+use Rattle.syntect_grammar_lists.specs.Sides.{edges_row, first_row, lines_row}
 use Rattle.syntect_grammar_lists.specs.Slims.{widened}
 use Rattle.syntect_grammar_lists.specs.declared.flats.Flat.{Flat}
 use Rattle.syntect_grammar_lists.specs.declared.flats.Origin.{Origin}
@@ -28,6 +28,7 @@ pub record IsCoarser (old new : Flat) : Type 0 where
   pub words : HoldsMore old.words new.words
   pub blanks : HoldsMore old.blanks new.blanks
   pub at_edges : new.at_edges ≡ true → old.at_edges ≡ true
+  pub at_lines : new.at_lines ≡ true → old.at_lines ≡ true
 
 -- the same patterns, of each of which the second list may tell less
 pub record AreCoarser (old new : List Flat) : Type 0 where
@@ -62,6 +63,7 @@ told_at any rows words index spot = record {
   words = places_where (is_told Side.Word rows words index);
   blanks = places_where (is_told Side.Blank rows words index);
   at_edges = not (bit_of rows words edges_row index);
+  at_lines = not (bit_of rows words lines_row index);
   context = record { syntax_index = spot.syntax; context_index = spot.context };
   index = spot.entry / 2;
   has_captures = has_captures_in spot.entry;

@@ -13,6 +13,8 @@ pub struct Flat {
     pub blanks: Places,
     /// Whether it is known that its matches begin only where a word begins or ends.
     pub at_edges: bool,
+    /// Whether it is known that its matches begin only where a line begins.
+    pub at_lines: bool,
     /// The context that holds it.
     pub context: ContextId,
     /// Its index among that context's entries.
@@ -43,4 +45,6 @@ pub struct Outlook {
     pub behind: u8,
     /// Whether it is known that no word begins or ends there.
     pub off_edges: bool,
+    /// Whether it is known that no line begins there.
+    pub off_lines: bool,
 }

@@ -12,7 +12,7 @@ use crate::flats::{Flat, Origin, Outlook};
 use crate::forms::{Form, Table};
 use crate::packed::{Packed, rows_packed, word_in};
 use crate::rows::rows_of;
-use crate::sides::{EDGES, Side, first_row};
+use crate::sides::{EDGES, LINES, Side, first_row};
 use crate::slims::{Slim, any_captures, is_out, narrowed, origin_of, slims_of};
 use crate::spots::{any_spot_captures, origin_of_spot, spots_of};
 use std::alloc::{AllocError, Global};
@@ -91,7 +91,7 @@ fn any_of(flats: &[Flat]) -> Places
 fn behind_row(outlook: Outlook) -> usize
     requires { outlook.behind < 130 }
     ensures value { result ≡ behind_row outlook }
-    ensures bound { result < 391 }
+    ensures bound { result < 392 }
 {
     let side = if outlook.blank {
         Side::Blank
@@ -99,6 +99,38 @@ fn behind_row(outlook: Outlook) -> usize
         Side::Word
     };
     first_row(side) + outlook.behind as usize
+}
+
+/// Which patterns of 64 in a row can begin where this is seen, a bit for each, wherever words and
+/// lines begin.
+#[inline]
+fn alive_anywhere(rows: &Packed, words: u16, outlook: Outlook, word: usize) -> u64
+    requires here { outlook.here < 130 }
+    requires behind { outlook.behind < 130 }
+    requires within { word < words }
+    requires whole { IsPacked words rows.now }
+    ensures { TellsAlive (unpacked words rows.now) words outlook word result }
+{
+    let here = word_in(rows, words, outlook.here as usize, word);
+    let behind = word_in(rows, words, behind_row(outlook), word);
+    here & behind
+}
+
+/// The same, wherever words begin.
+#[inline]
+fn alive_in_line(rows: &Packed, words: u16, outlook: Outlook, word: usize) -> u64
+    requires here { outlook.here < 130 }
+    requires behind { outlook.behind < 130 }
+    requires within { word < words }
+    requires whole { IsPacked words rows.now }
+    ensures { TellsAlive (unpacked words rows.now) words outlook word result }
+{
+    let alive = alive_anywhere(rows, words, outlook, word);
+    if outlook.off_lines {
+        alive & word_in(rows, words, LINES, word)
+    } else {
+        alive
+    }
 }
 
 /// Which patterns of 64 in a row can begin where this is seen, a bit for each.
@@ -110,12 +142,11 @@ fn alive(rows: &Packed, words: u16, outlook: Outlook, word: usize) -> u64
     requires whole { IsPacked words rows.now }
     ensures { TellsAlive (unpacked words rows.now) words outlook word result }
 {
-    let here = word_in(rows, words, outlook.here as usize, word);
-    let behind = word_in(rows, words, behind_row(outlook), word);
+    let alive = alive_in_line(rows, words, outlook, word);
     if outlook.off_edges {
-        here & behind & word_in(rows, words, EDGES, word)
+        alive & word_in(rows, words, EDGES, word)
     } else {
-        here & behind
+        alive
     }
 }
 

@@ -4,12 +4,12 @@
 ghost use Rattle.std.specs.Prelude.{◌≡◌, ◌≤◌, ◌<◌, ◌+◌, ◌*◌, ◌/◌, ◌%◌, ℕ, length, IfOk, slice_index_or, true};
 ghost use Rattle.std.specs.Int.{bit_at};
 ghost use Rattle.syntect_grammar_lists.specs.syntect_pattern_table.Starts.{is_in};
-ghost use Rattle.syntect_grammar_lists.specs.Rows.{KeepsBits, TellsEdges, TellsSide, bit_of, has_bit};
+ghost use Rattle.syntect_grammar_lists.specs.Rows.{KeepsBits, TellsEdges, TellsLines, TellsSide, bit_of, has_bit};
 ghost use Rattle.syntect_grammar_lists.specs.Sides.{first_row, places_on};
 
 use crate::below::pattern_table::starts::{Places, is_in};
 use crate::flats::Flat;
-use crate::sides::{EDGES, Side, first_row, is_everything, places_on, row_count};
+use crate::sides::{EDGES, LINES, Side, first_row, is_everything, places_on, row_count};
 use std::alloc::{AllocError, Global};
 
 /// Sets bits of a word, if there is one at the place.
@@ -29,7 +29,7 @@ fn set_bits(rows: &mut Vec<u64>, place: usize, bits: u64)
 #[inline]
 fn mark_row(rows: &mut Vec<u64>, words: u16, index: usize, row: usize)
     requires index { index < 65536 }
-    requires row { row < 391 }
+    requires row { row < 392 }
     ensures marks { bit_of rows.new.items words row index ≡ true }
     ensures others { KeepsBits rows.old.items rows.new.items }
 {
@@ -41,7 +41,7 @@ fn mark_row(rows: &mut Vec<u64>, words: u16, index: usize, row: usize)
 #[inline]
 fn mark_one(rows: &mut Vec<u64>, words: u16, index: usize, first: usize, places: Places, x: u8)
     requires index { index < 65536 }
-    requires first { first ≤ 261 }
+    requires first { first ≤ 262 }
     requires row { x < 130 }
     ensures marks { is_in places x ≡ true → bit_of rows.new.items words (first + x) index ≡ true }
     ensures others { KeepsBits rows.old.items rows.new.items }
@@ -56,7 +56,7 @@ fn mark_one(rows: &mut Vec<u64>, words: u16, index: usize, first: usize, places:
 #[inline]
 fn mark_half(rows: &mut Vec<u64>, words: u16, index: usize, first: usize, bits: u64)
     requires index { index < 65536 }
-    requires first { first ≤ 325 }
+    requires first { first ≤ 326 }
     ensures marks { (x : ℕ) → x < 64 → bit_at bits x ≡ 1
         → bit_of rows.new.items words (first + x) index ≡ true }
     ensures others { KeepsBits rows.old.items rows.new.items }
@@ -75,7 +75,7 @@ fn mark_half(rows: &mut Vec<u64>, words: u16, index: usize, first: usize, bits: 
 /// Sets the bit of a pattern in the rows, from the first on, of what can stand there.
 fn mark(rows: &mut Vec<u64>, words: u16, index: usize, first: usize, places: Places)
     requires index { index < 65536 }
-    requires first { first ≤ 261 }
+    requires first { first ≤ 262 }
     ensures marks { (x : ℕ) → x < 130 → is_in places x ≡ true
         → bit_of rows.new.items words (first + x) index ≡ true }
     ensures others { KeepsBits rows.old.items rows.new.items }
@@ -98,7 +98,7 @@ fn mark_unless(
     bits: u64,
 )
     requires index { index < 65536 }
-    requires first { first ≤ 261 }
+    requires first { first ≤ 262 }
     ensures marks { (x : ℕ) → x < 130 → is_in places x ≡ true → bit_at bits (index % 64) ≡ 0
         → bit_of rows.new.items words (first + x) index ≡ true }
     ensures others { KeepsBits rows.old.items rows.new.items }
@@ -110,7 +110,7 @@ fn mark_unless(
 
 /// Sets bits of one word in each of 130 rows from the first on.
 fn mark_all(rows: &mut Vec<u64>, words: u16, first: usize, word: usize, bits: u64)
-    requires first { first ≤ 261 }
+    requires first { first ≤ 262 }
     requires word { word < 1024 }
     ensures marks { (x b : ℕ) → x < 130 → b < 64 → bit_at bits b ≡ 1
         → has_bit rows.new.items ((first + x) * words + word) b ≡ true }
@@ -187,6 +187,19 @@ fn mark_edges(rows: &mut Vec<u64>, words: u16, flats: &[Flat])
     }
 }
 
+/// Sets the bits of patterns whose matches can begin where no line begins.
+fn mark_lines(rows: &mut Vec<u64>, words: u16, flats: &[Flat])
+    requires { length flats.now ≤ 65536 }
+    ensures marks { TellsLines rows.new.items words flats.now }
+    ensures others { KeepsBits rows.old.items rows.new.items }
+{
+    for (index, flat) in flats.iter().enumerate() {
+        if !flat.at_lines {
+            mark_row(rows, words, index, LINES);
+        }
+    }
+}
+
 /// The rows of these patterns. Where what comes after a word or after white space rules none of
 /// them out, there are none of it.
 pub(crate) fn rows_of(
@@ -199,10 +212,12 @@ pub(crate) fn rows_of(
     ensures sides { IfOk result (λ rows. (side : Side)
         → TellsSide side rows.items words flats.now) }
     ensures edges { IfOk result (λ rows. TellsEdges rows.items words flats.now) }
+    ensures lines { IfOk result (λ rows. TellsLines rows.items words flats.now) }
 {
     let mut rows = vec![in alloc; 0u64; row_count(asks, flats) * words as usize]?;
     mark_side(&mut rows, words, flats, Side::Here);
     mark_edges(&mut rows, words, flats);
+    mark_lines(&mut rows, words, flats);
     mark_side(&mut rows, words, flats, Side::Word);
     mark_side(&mut rows, words, flats, Side::Blank);
     Ok(rows)

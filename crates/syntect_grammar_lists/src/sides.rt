@@ -20,21 +20,24 @@ pub enum Side {
 /// The row of places where no word begins or ends.
 pub(crate) const EDGES: usize = 130;
 
+/// The row of places where no line begins.
+pub(crate) const LINES: usize = 131;
+
 /// The first row of what comes after a word: so many stand before it.
-const WORDS: usize = 131;
+const WORDS: usize = 132;
 
 /// The first row of what comes after white space.
-const BLANKS: usize = 261;
+const BLANKS: usize = 262;
 
 /// How many rows there are: 130 for each side, which are each ASCII character, any other one, and
-/// the end, and one for places where no word begins or ends.
-const ROWS: usize = 391;
+/// the end, one for places where no word begins or ends, and one for those where no line begins.
+const ROWS: usize = 392;
 
 /// The first of the rows that are of a side.
 #[inline]
 pub(crate) fn first_row(side: Side) -> usize
     ensures value { result ≡ spec.first_row side }
-    ensures bound { result ≤ 261 }
+    ensures bound { result ≤ 262 }
 {
     match side {
         Side::Here => 0,
@@ -61,11 +64,12 @@ pub(crate) fn is_everything(places: Places) -> bool {
     places.ascii == u128::MAX && places.wide && places.end
 }
 
-/// How many rows a table of these patterns has: those of what stands at a place and of edges alone
+/// How many rows a table of these patterns has: those of what stands at a place, of edges and of
+/// lines alone
 /// where what follows rules none out, and those before the ones of white space where what follows
 /// those doesn't. A row past a table's end rules out none.
 pub(crate) fn row_count(asks: bool, flats: &[Flat]) -> usize
-    ensures { result ≤ 391 }
+    ensures { result ≤ 392 }
 {
     if !asks {
         WORDS

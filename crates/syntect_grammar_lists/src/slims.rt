@@ -39,6 +39,8 @@ pub struct Slim {
     pub blanks: u32,
     /// Whether it is known that its matches begin only where a word begins or ends.
     pub at_edges: bool,
+    /// Whether it is known that its matches begin only where a line begins.
+    pub at_lines: bool,
     /// Whether it has back references into the match that opened its context.
     pub has_captures: bool,
 }
@@ -52,6 +54,7 @@ const FIRST: Slim = Slim {
     words: 0,
     blanks: 0,
     at_edges: false,
+    at_lines: false,
     has_captures: false,
 };
 
@@ -106,7 +109,7 @@ fn is_cut(table: &[Places], slim: &Slim, outlook: Outlook) -> bool
     ensures { result ≡ true → IsCut outlook (widened table.now slim.now) }
 {
     if is_in(behind_of(table, outlook.blank, slim), outlook.behind) {
-        outlook.off_edges && slim.at_edges
+        (outlook.off_edges && slim.at_edges) || (outlook.off_lines && slim.at_lines)
     } else {
         true
     }
@@ -200,6 +203,7 @@ fn slim_of(table: &mut Vec<Places>, before: Slim, flat: &Flat) -> Result<Slim, A
         words,
         blanks,
         at_edges: flat.at_edges,
+        at_lines: flat.at_lines,
         has_captures: flat.has_captures,
     })
 }

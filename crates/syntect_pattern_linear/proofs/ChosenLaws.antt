@@ -1,6 +1,6 @@
 -- The member that is chosen of a tree's matches.
 use Rattle.std.proofs.Common.{◌≡◌, ◌⊎◌, inl, inr, ℕ, zero, suc, ◌+◌, ◌-◌, ◌≤◌, ◌<◌, List, [], ◌∷◌, ◌++◌, length, map, take, Bool, true, false, Option, Some, None, refl, sym, ap, ◌∙◌, arith}
-use Rattle.std.specs.Prelude.{◌&&◌, if◌then◌else◌, ◌==◌, is_some, option_map, IsUtf8, IsCharBoundary}
+use Rattle.std.specs.Prelude.{if◌then◌else◌, ◌==◌, is_some, option_map, IsUtf8, IsCharBoundary}
 use Rattle.std.specs.List.{flat_map}
 use Rattle.std.specs.Option.{option_or}
 use Rattle.std.specs.Char.{len_utf8}
@@ -9,9 +9,9 @@ use Rattle.syntect_pattern_linear.specs.syntect_pattern.Matches.{Groups, Member,
 use Rattle.syntect_pattern_linear.proofs.syntect_pattern_proofs.Each.{Each}
 use Rattle.syntect_pattern_linear.proofs.syntect_pattern_proofs.TurnLaws.{matches-forward}
 use Rattle.syntect_pattern_linear.specs.syntect_pattern_steps.Steps.{after_char}
-use Rattle.syntect_pattern_plan.specs.Onward.{Onward, reaches, chosen, moved, is_free, is_calm, reads, onward, turn_end, end_if}
+use Rattle.syntect_pattern_plan.specs.Onward.{Onward, reaches, chosen, moved, is_free, reads, onward, turn_end, end_if}
 use Rattle.syntect_pattern_plan.proofs.ReachLaws.{chosen-append, some-chosen, reaches-ends, reaches-flat_map, chosen-flat_map, chosen-alike}
-use Rattle.syntect_pattern_plan.proofs.TreeLaws.{and_left, ends-matches, behind-matches}
+use Rattle.syntect_pattern_plan.proofs.TreeLaws.{and_left, free-turn, ends-matches, behind-matches}
 use Rattle.syntect_pattern_plan.proofs.OnwardLaws.{moved-at, moved-past, moved-same, Ahead, following, then-moved, turn-moved, leads, same-place, other-place, onward-alike, turn-leads, turn-room}
 use Rattle.syntect_pattern_plan.proofs.ChosenLaws.{chosen-leads}
 
@@ -151,7 +151,7 @@ module _ (s : List ℕ) (u : IsUtf8 s) where
   while-some (Some zero) turn F o i g e = refl
   while-some (Some (suc n)) turn F o i g e = ap is_some e
 
-  module _ (greedy : Bool) (least : ℕ) (most : Option ℕ) (a : Tree) (free : (is_free a && is_calm a) ≡ true) (f g : Onward) (i : ℕ) (h : Groups) (c : IsCharBoundary s i) where
+  module _ (greedy : Bool) (least : ℕ) (most : Option ℕ) (a : Tree) (free : is_free (repeat greedy least most a) ≡ true) (f g : Onward) (i : ℕ) (h : Groups) (c : IsCharBoundary s i) where
     -- the loop after a turn
     abbrev rest : Tree
     rest = repeat greedy (least - 1) (option_map (λ k. k - 1) most) a
@@ -170,7 +170,7 @@ module _ (s : List ℕ) (u : IsUtf8 s) where
     turn-reaches =
         reaches-flat_map (Ahead s u i) (moved i f g) (moved i (moved i f g) (onward s rest (moved i f g)))
         (λ m. after_turn (m.0 == i) more m.0 m.1) (matches s a i h) (matches-forward s u a i h c)
-        (turn-leads s u greedy (least - 1) (option_map (λ k. k - 1) most) a free (moved i f g) i)
+        (turn-leads s u greedy (least - 1) (option_map (λ k. k - 1) most) a (free-turn greedy least (least - 1) most a free) (moved i f g) i)
         ∙ reaches-any a (and_left _ _ free) (moved i (moved i f g) (onward s rest (moved i f g))) i h
         ∙ onward-alike s u a (moved i (moved i f g) (onward s rest (moved i f g))) turned i c (λ j l d. turn-moved s u rest f g i j l d)
 
@@ -178,7 +178,7 @@ module _ (s : List ℕ) (u : IsUtf8 s) where
     turn-chosen m q =
         chosen-flat_map (Ahead s u i) (moved i f g) (moved i (moved i f g) (onward s rest (moved i f g)))
         (λ x. after_turn (x.0 == i) more x.0 x.1) (matches s a i h) m (matches-forward s u a i h c)
-        (turn-leads s u greedy (least - 1) (option_map (λ k. k - 1) most) a free (moved i f g) i)
+        (turn-leads s u greedy (least - 1) (option_map (λ k. k - 1) most) a (free-turn greedy least (least - 1) most a free) (moved i f g) i)
         (chosen-forward a (moved i (moved i f g) (onward s rest (moved i f g))) turned i h c (λ j l d. turn-moved s u rest f g i j l d) ∙ q)
 
     pub chosen-turn : (m : Member) → is_some (turn_end most (onward s a turned i)) ≡ true → (greedy ≡ true) ⊎ (is_some (end_if (least == 0) (f i)) ≡ false)

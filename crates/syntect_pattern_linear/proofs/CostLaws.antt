@@ -1,11 +1,12 @@
 -- The steps of a walk.
-use Rattle.std.proofs.Common.{◌≡◌, ℕ, suc, ◌+◌, ◌*◌, ◌<◌, ◌≤◌, List, length, Bool, true, Option, refl, sym, ap, subst, ◌∙◌, arith, mul-le-mul_left}
-use Rattle.std.specs.Prelude.{if◌then◌else◌, IsCharBoundary}
+use Rattle.std.proofs.Common.{◌≡◌, ◌⊎◌, inl, inr, ℕ, zero, suc, ◌+◌, ◌-◌, ◌*◌, ◌<◌, ◌≤◌, List, length, Bool, true, false, Option, Some, None, refl, sym, ap, subst, ◌∙◌, arith, mul-le-mul_left}
+use Rattle.std.specs.Prelude.{◌||◌, if◌then◌else◌, option_map, IsCharBoundary}
+use Rattle.std.proofs.lemmas.Bool.Decides.{nat_tests}
 use Rattle.syntect_pattern_linear.specs.syntect_pattern.Trees.{Tree, nothing, one_of, anchor, same, seq, alt, repeat, group, atomic, ahead, behind}
 use Rattle.syntect_pattern_linear.specs.syntect_pattern.Matches.{Groups, Member, matches}
 use Rattle.syntect_pattern_linear.specs.syntect_pattern_table.Program.{trees_of}
 use Rattle.syntect_pattern_linear.proofs.syntect_pattern_proofs.TurnLaws.{matches-forward}
-use Rattle.syntect_pattern_plan.specs.Onward.{is_calm, is_free}
+use Rattle.syntect_pattern_plan.specs.Onward.{is_calm, is_free, is_once, has_turn}
 use Rattle.syntect_pattern_plan.specs.Cells.{cell_at, parts_at, item_tree}
 use Rattle.syntect_pattern_plan.specs.Plan.{IsPart, IsSequence}
 use Rattle.syntect_pattern_linear.specs.Ground.{IsGround}
@@ -17,6 +18,7 @@ use Rattle.syntect_pattern_plan.specs.declared.cells.Cell.{Cell}
 use Rattle.syntect_pattern_plan.proofs.TreeLaws.{and_left, and_right}
 use Rattle.syntect_pattern_linear.proofs.StepLaws.{step, free}
 use Rattle.syntect_pattern_linear.proofs.GroundLaws.{tree-on}
+use Rattle.syntect_pattern_linear.proofs.WalkLaws.{look_left}
 use Rattle.syntect_pattern_plan.proofs.ChosenLaws.{chosen-each}
 
 -- a walk goes on
@@ -73,16 +75,33 @@ look-costs s r l n y b0 b1 p h =
     omega arith
 
 -- turns
-pub turn-cost : (s r n y z b0 b1 b2 : ℕ) → 0 < z → b1 ≤ b0 + (s + r) * y → b2 ≤ b1 + (s + r * z + 0 * n) → b2 ≤ b0 + (s + r) * (y + z)
-turn-cost s r n y z b0 b1 b2 p h k =
+pub turn-cost : (s r l y z old new b0 b1 b2 : ℕ) → 0 < z → l + new ≤ old → b1 + old ≤ b0 + (s + r) * y + l → b2 ≤ b1 + (s + r * z + l) → b2 + new ≤ b0 + (s + r) * (y + z) + l
+turn-cost s r l y z old new b0 b1 b2 p q h k =
     let one : 1 ≤ z = omega arith in
     let a = mul-le-mul_left s one in
     let d : s * 1 ≡ s = grind arith in
     let f : (s + r) * (y + z) ≡ (s + r) * y + (s * z + r * z) = grind arith in
     omega arith
 
-pub last-cost : (s r l n y b0 b1 b2 : ℕ) → b1 ≤ b0 + (s + r) * y → b2 ≤ b1 + (s + r * 0 + 0 * n) → suc b2 ≤ b0 + (suc s + (s + r) * y + l * n)
-last-cost s r l n y b0 b1 b2 h k = let e : r * 0 ≡ 0 = grind arith in omega arith
+pub last-cost : (s r l y old new b0 b1 b2 : ℕ) → l + new ≤ old → b1 + old ≤ b0 + (s + r) * y + l → b2 ≤ b1 + (s + r * 0 + l) → suc b2 ≤ b0 + (suc s + (s + r) * y + l)
+last-cost s r l y old new b0 b1 b2 q h k = let e : r * 0 ≡ 0 = grind arith in omega arith
+
+left-most : (most : Option ℕ) (l : ℕ) → look_left most l ≤ l
+left-most most l = by (has_turn most)
+  where
+    by : (b : Bool) → (if b then l else 0) ≤ l
+    by true = omega arith
+    by false = omega arith
+
+none-times : (l n : ℕ) → l ≡ 0 → l * n ≡ 0
+none-times l n z = let e : 0 * n ≡ 0 = grind arith in ap (λ (k : ℕ). k * n) z ∙ e
+
+no-looks : (l n : ℕ) → l ≡ 0 → l * n + l * n ≤ l * n
+no-looks l n z = let none = none-times l n z in omega (arith, none)
+
+-- before the first turn
+pub no-turn : (most : Option ℕ) (l b c : ℕ) → b + look_left most l ≤ b + c + l
+no-turn most l b c = let w = left-most most l in omega (arith, w)
 
 pub calm-look : (t : Tree) → is_calm t ≡ true → look_cost t ≡ 0
 calm-look nothing e = refl
@@ -96,6 +115,22 @@ calm-look (group n a) e = calm-look a e
 calm-look (atomic a) e = calm-look a e
 calm-look (ahead negated a) e = ap (λ (b : Bool). if b then 0 else walk_cost a + look_cost a) e
 calm-look (behind negated a) e = refl
+
+-- where a turn is taken, it may take this for lookaheads, and then there is none left to take, or
+-- they take nothing
+pub looks-left : (most : Option ℕ) (l n : ℕ) → has_turn most ≡ true → (is_once most ≡ true) ⊎ (l ≡ 0)
+    → l * n + look_left (option_map (λ j. j - 1) most) (l * n) ≤ look_left most (l * n)
+looks-left None l n e (inl o) = absurd cc
+looks-left None l n e (inr z) = no-looks l n z
+looks-left (Some zero) l n e h = absurd cc
+looks-left (Some (suc m)) l n e (inl o) =
+    let none : suc m - 1 ≡ 0 = grind (arith, nat_tests) in
+    let left : look_left (Some (suc m - 1)) (l * n) ≡ 0 = ap (λ (k : ℕ). look_left (Some k) (l * n)) none in
+    omega (arith, left)
+looks-left (Some (suc m)) l n e (inr z) =
+    let none = none-times l n z in
+    let left = left-most (Some (suc m - 1)) (l * n) in
+    omega (arith, left, none)
 
 -- -- The trees of parts
 
@@ -129,6 +164,12 @@ module _ (x : Ground) (k place : ℕ) (r : IsGround x place) where
   pub ahead-tree : (negated : Bool) (a : Tree) → IsTreeAt x k (ahead negated a) → tree_of first ≡ a
   ahead-tree negated a h = let p : IsPart ts cells first a 0 0 = st (ahead negated a) h in part-tree ts cells first a 0 0 p
 
-  pub loop-calm : (greedy : Bool) (least : ℕ) (most : Option ℕ) (a : Tree) → IsTreeAt x k (repeat greedy least most a) → look_cost a ≡ 0
-  loop-calm greedy least most a h =
-      calm-look a (and_right (is_free a) (is_calm a) (free x.text.now ts cells x.plan.now.parts x.plan.now.behinds k (repeat greedy least most a) (tree-on x place k (repeat greedy least most a) r h)))
+  -- a loop takes one turn at most, or its lookaheads take nothing
+  pub loop-looks : (greedy : Bool) (least : ℕ) (most : Option ℕ) (a : Tree) → IsTreeAt x k (repeat greedy least most a) → (is_once most ≡ true) ⊎ (look_cost a ≡ 0)
+  loop-looks greedy least most a h =
+      once-or (is_once most) a
+      (and_right (is_free a) (is_once most || is_calm a) (free x.text.now ts cells x.plan.now.parts x.plan.now.behinds k (repeat greedy least most a) (tree-on x place k (repeat greedy least most a) r h)))
+    where
+      once-or : (b : Bool) (t : Tree) → (b || is_calm t) ≡ true → (b ≡ true) ⊎ (look_cost t ≡ 0)
+      once-or true t e = inl refl
+      once-or false t e = inr (calm-look t e)

@@ -1,15 +1,16 @@
 -- What a search stands on.
 use Rattle.std.proofs.Common.{◌≡◌, ℕ, zero, suc, ◌+◌, ◌-◌, ◌<◌, List, length, Bool, true, false, Option, Some, None, refl, sym, ap, subst, ◌∙◌, arith, set, get_or}
-use Rattle.std.specs.Prelude.{if◌then◌else◌, ◌==◌, not, is_some, IfSome, option_and_then, IsCharBoundary}
+use Rattle.std.specs.Prelude.{if◌then◌else◌, ◌||◌, ◌==◌, not, is_some, IfSome, option_and_then, IsCharBoundary}
 use Rattle.std.specs.Option.{option_or}
 use Rattle.std.specs.Char.{len_utf8}
 use Rattle.syntect_pattern_linear.specs.syntect_pattern.Text.{char_at}
 use Rattle.syntect_pattern_linear.specs.syntect_pattern.Sets.{Set, holds}
 use Rattle.syntect_pattern_linear.specs.syntect_pattern.Matches.{anchor_holds}
 use Rattle.syntect_pattern_linear.specs.syntect_pattern_steps.Steps.{after_char}
-use Rattle.syntect_pattern_plan.specs.Onward.{plain, moved, prefer_end, turn_end, has_turn, end_if}
+use Rattle.syntect_pattern_plan.specs.Onward.{plain, is_bare, moved, prefer_end, turn_end, has_turn, end_if}
 use Rattle.syntect_pattern_plan.specs.Plan.{TurnIs}
 use Rattle.syntect_pattern_plan.proofs.OnwardLaws.{moved-at, moved-past}
+use Rattle.syntect_pattern_plan.proofs.TreeLaws.{and_left}
 use Rattle.syntect_pattern_linear.specs.syntect_pattern.Trees.{Tree, nothing, one_of, anchor, seq, alt, repeat, group, atomic, ahead, behind}
 use Rattle.syntect_pattern_linear.specs.syntect_pattern.declared.anchor.Anchor.{Anchor}
 use Rattle.syntect_pattern_linear.specs.syntect_pattern_table.Program.{trees_of}
@@ -137,7 +138,7 @@ module _ (x : Ground) (place k : ℕ) (r : IsGround x place) where
       let g = at-behind s ts cells parts behinds k place r.boundary negated a (tree-on x place k (behind negated a) r h) in
       let seen : flag ≡ ends_here s a place =
       z ∙ ap (λ (j : ℕ). row_flag x.sights.now j place) q
-      ∙ r.sights_are (parts_at parts k).first place g.1.inside (ap plain g.1.tree ∙ free s ts cells parts behinds k (behind negated a) (tree-on x place k (behind negated a) r h)) r.boundary
+      ∙ r.sights_are (parts_at parts k).first place g.1.inside (ap plain g.1.tree ∙ and_left (plain a) (negated || is_bare a) (free s ts cells parts behinds k (behind negated a) (tree-on x place k (behind negated a) r h))) r.boundary
       ∙ ap (λ (t : Tree). ends_here s t place) g.1.tree in (
         g.0
             ∙ ap (λ (b : Bool). end_if (if negated then not b else b) (ends_at x (cell_at cells k).empty place)) (sym seen)

@@ -1,10 +1,10 @@
 -- Along the match, turn by turn.
-use Rattle.std.proofs.Common.{◌≡◌, ℕ, zero, suc, ◌-◌, ◌<◌, List, length, Bool, true, false, Option, Some, None, refl, sym, ap, subst, ◌∙◌, arith, inl, inr, ◌⊎◌}
-use Rattle.std.specs.Prelude.{◌&&◌, if◌then◌else◌, ◌==◌, not, is_some, option_map, IsUtf8}
+use Rattle.std.proofs.Common.{◌≡◌, ℕ, zero, suc, ◌+◌, ◌*◌, ◌-◌, ◌<◌, ◌≤◌, List, length, Bool, true, false, Option, Some, None, refl, sym, ap, subst, ◌∙◌, arith, inl, inr, ◌⊎◌}
+use Rattle.std.specs.Prelude.{if◌then◌else◌, ◌==◌, not, is_some, option_map, IsUtf8}
 use Rattle.syntect_pattern_linear.specs.syntect_pattern.Trees.{Tree, repeat}
 use Rattle.syntect_pattern_linear.specs.syntect_pattern.Matches.{Groups, Member, after_turn, turns, matches}
 use Rattle.syntect_pattern_linear.specs.syntect_pattern_table.Program.{trees_of}
-use Rattle.syntect_pattern_plan.specs.Onward.{Onward, chosen, moved, onward, is_free, is_calm, end_if, has_turn, turn_end, prefer_end}
+use Rattle.syntect_pattern_plan.specs.Onward.{Onward, chosen, moved, onward, is_free, end_if, has_turn, turn_end, prefer_end}
 use Rattle.syntect_pattern_plan.specs.Cells.{cell_at, parts_at, item_tree, is_end, tree_size}
 use Rattle.syntect_pattern_linear.specs.Ground.{IsGround, ends_at}
 use Rattle.syntect_pattern_linear.specs.Step.{IsTreeAt}
@@ -16,8 +16,10 @@ use Rattle.syntect_pattern_plan.proofs.OnwardLaws.{moved-past}
 use Rattle.syntect_pattern_linear.proofs.ChosenLaws.{chosen-forward, chosen-turn, chosen-empty, chosen-more, chosen-leave, turned}
 use Rattle.syntect_pattern_linear.proofs.StepLaws.{IsAt, free, step, following-is, at-repeat, turn-ends}
 use Rattle.syntect_pattern_linear.proofs.GroundLaws.{tree-on, turn-if}
-use Rattle.syntect_pattern_linear.proofs.WalkLaws.{size_of, ground-on, CanWalk, can-walk, size-is, part-chosen, ends-forward, walks-by}
+use Rattle.syntect_pattern_linear.proofs.WalkLaws.{look_left, size_of, ground-on, CanWalk, can-walk, size-is, part-chosen, ends-forward, walks-by}
 use Rattle.syntect_pattern_plan.proofs.ChosenLaws.{chosen-leads, if-some}
+use Rattle.syntect_pattern_linear.specs.Steps.{look_cost}
+use Rattle.syntect_pattern_linear.proofs.CostLaws.{looks-left, loop-looks}
 
 module _ (x : Ground) (k place : ℕ) (g : Groups) (filled : IsGround x place) (greedy : Bool) (least : ℕ) (most : Option ℕ) (a : Tree) (here : IsTreeAt x k (repeat greedy least most a)) where
   abbrev ts : List Tree
@@ -47,7 +49,7 @@ module _ (x : Ground) (k place : ℕ) (g : Groups) (filled : IsGround x place) (
   y : IsAt x.text.now (trees_of x.program.now) x.plan.now.cells x.plan.now.parts x.plan.now.behinds k (repeat greedy least most a)
   y = tree-on x place k (repeat greedy least most a) filled here
 
-  fr : (is_free a && is_calm a) ≡ true
+  fr : is_free (repeat greedy least most a) ≡ true
   fr = free x.text.now ts cells x.plan.now.parts x.plan.now.behinds k (repeat greedy least most a) y
 
   u : IsUtf8 x.text.now
@@ -121,6 +123,14 @@ module _ (x : Ground) (k place : ℕ) (g : Groups) (filled : IsGround x place) (
 
   pub turn-tree : is_some (ends_at x k place) ≡ true → takes ≡ true → item_tree ts (cell_at cells first).item ≡ a
   turn-tree found e = let h = is-turn e found in ap (item_tree ts) h.first_is.cell.item_is ∙ h.first_is.tree
+
+  -- what lookaheads take in the turn, and may take in later ones, was left for them
+  pub turn-looks : is_some (ends_at x k place) ≡ true → takes ≡ true → (size : ℕ)
+      → look_cost a * size + look_left (option_map (λ j. j - 1) most) (look_cost a * size) ≤ look_left most (look_cost a * size)
+  turn-looks found e size =
+      let c = choice greedy turn_found leave_found (ap is_some (sym ends-is) ∙ found) e in
+      let has : has_turn most ≡ true = (if-some (has_turn most) (ends_at x first place) c.0).0 in
+      looks-left most (look_cost a) size has (loop-looks x k place filled greedy least most a here)
 
   turn-chosen : (found : is_some (ends_at x k place) ≡ true) (e : takes ≡ true) (m : Member) → Walks x first place g m.0 m.1
       → chosen (turned x.text.now u greedy least most a fr (E f) (E n) place g filled.boundary) (matches x.text.now a place g) ≡ Some m

@@ -1,6 +1,6 @@
 -- Along the match, part by part.
-use Rattle.std.proofs.Common.{◌≡◌, ℕ, suc, ◌+◌, ◌*◌, ◌-◌, ◌<◌, ◌≤◌, List, [], ◌∷◌, Bool, true, false, Option, Some, None, refl, sym, ap, subst, ◌∙◌, arith, inl, inr, ◌⊎◌}
-use Rattle.std.specs.Prelude.{if◌then◌else◌, ◌==◌, is_some, slice_set, option_map, option_and_then, unwrap_or, IsUtf8, IsCharBoundary}
+use Rattle.std.proofs.Common.{◌≡◌, ℕ, suc, ◌+◌, ◌*◌, ◌-◌, ◌<◌, ◌≤◌, List, [], ◌∷◌, length, Bool, true, false, Option, Some, None, refl, sym, ap, subst, ◌∙◌, arith, inl, inr, ◌⊎◌}
+use Rattle.std.specs.Prelude.{if◌then◌else◌, ◌||◌, ◌==◌, is_some, slice_set, option_map, option_and_then, unwrap_or, IsUtf8, IsCharBoundary}
 use Rattle.std.specs.Option.{option_or}
 use Rattle.syntect_pattern_linear.specs.syntect_pattern.Text.{char_at}
 use Rattle.syntect_pattern_linear.specs.syntect_pattern.Sets.{Set, holds}
@@ -8,7 +8,7 @@ use Rattle.syntect_pattern_linear.specs.syntect_pattern.Trees.{Tree, nothing, on
 use Rattle.syntect_pattern_linear.specs.syntect_pattern.declared.anchor.Anchor.{Anchor}
 use Rattle.syntect_pattern_linear.specs.syntect_pattern.Matches.{Groups, Member, only_if, look, close, matches}
 use Rattle.syntect_pattern_linear.specs.syntect_pattern_table.Program.{trees_of}
-use Rattle.syntect_pattern_plan.specs.Onward.{Onward, chosen, reaches, moved, reads, onward, is_free, is_bare}
+use Rattle.syntect_pattern_plan.specs.Onward.{Onward, chosen, reaches, moved, reads, onward, plain, is_free, is_bare, has_turn}
 use Rattle.syntect_pattern_plan.specs.Cells.{cell_at, parts_at, item_tree, is_end, tree_size}
 use Rattle.syntect_pattern_linear.specs.Ground.{IsGround, IsIn, ends_at}
 use Rattle.syntect_pattern_linear.specs.Step.{IsTreeAt}
@@ -22,7 +22,7 @@ use Rattle.syntect_pattern_plan.specs.Plan.{IsPart}
 use Rattle.syntect_pattern_linear.specs.syntect_pattern_steps.Steps.{after_char}
 use Rattle.syntect_pattern_linear.proofs.syntect_pattern_proofs.Each.{Each}
 use Rattle.syntect_pattern_linear.proofs.syntect_pattern_proofs.TurnLaws.{matches-forward}
-use Rattle.syntect_pattern_plan.proofs.TreeLaws.{bare-groups, plain-bare, and_left}
+use Rattle.syntect_pattern_plan.proofs.TreeLaws.{bare-groups, and_left, and_right}
 use Rattle.syntect_pattern_plan.proofs.CellLaws.{either-bool}
 use Rattle.syntect_pattern_plan.proofs.OnwardLaws.{moved-at, moved-same, onward-one_of}
 use Rattle.syntect_pattern_linear.proofs.ChosenLaws.{reaches-any, chosen-reads, chosen-stays, chosen-past, stays-look, first-chosen, second-chosen, chosen-close, chosen-first, chosen-stay, chosen-forward}
@@ -35,6 +35,10 @@ use Rattle.syntect_pattern_plan.proofs.ChosenLaws.{chosen-each, if-some}
 abbrev pub size_of : Ground → ℕ → ℕ
 size_of x k = tree_size (item_tree (trees_of x.program.now) (cell_at x.plan.now.cells k).item)
 
+-- what lookaheads may still take in a loop: so much, where it may take a turn
+abbrev pub look_left : Option ℕ → ℕ → ℕ
+look_left most l = if has_turn most then l else 0
+
 -- A loop goes on with another cell at a later place: what is chosen from there on is what is chosen
 -- from the start.
 pub record Continues (x : Ground) (k place : ℕ) (g : Groups) (turn at : ℕ) (h : Groups) (greedy : Bool) (least : ℕ) (most : Option ℕ) (before after : ℕ) : Type 0 where
@@ -46,8 +50,9 @@ pub record Continues (x : Ground) (k place : ℕ) (g : Groups) (turn at : ℕ) (
   pub later : place ≤ at
   pub stays : stay_cost (item_tree (trees_of x.program.now) (cell_at x.plan.now.cells k).item) ≡ suc (stay_cost body)
   pub reads : read_cost (item_tree (trees_of x.program.now) (cell_at x.plan.now.cells k).item) ≡ stay_cost body + read_cost body
-  pub calm : look_cost body ≡ 0
-  pub paid : after ≤ before + (stay_cost body + read_cost body) * (at - place)
+  pub looks : look_cost (item_tree (trees_of x.program.now) (cell_at x.plan.now.cells k).item) ≡ look_cost body
+  pub paid : after + look_left most (look_cost body * suc (length x.text.now))
+      ≤ before + (stay_cost body + read_cost body) * (at - place) + look_cost body * suc (length x.text.now)
 
 -- what goes on after a part that ended there
 abbrev pub follow : Ground → ℕ → ℕ → ℕ → ℕ
@@ -155,13 +160,16 @@ module _ (x : Ground) (k place : ℕ) (g : Groups) (filled : IsGround x place) w
   pub walks-anchor : (d : Anchor) → At (anchor d) → Found → Walks x k place g place g
   walks-anchor d a e = bare-stays (anchor d) a e refl (only-stays (Rattle.syntect_pattern_linear.specs.syntect_pattern.Matches.anchor_holds s d place))
 
-  pub walks-behind : (negated : Bool) (b : Tree) → At (behind negated b) → Found → Walks x k place g place g
-  walks-behind negated b a e =
-      bare-stays (behind negated b) a e (plain-bare b (free s ts cells parts behinds k (behind negated b) (at (behind negated b) a))) (stays-look negated place g _)
-
   unless-groups : (ms : List Member) → Each (λ m. m.1 ≡ g) (look true place g ms)
   unless-groups [] = (refl, tt)
   unless-groups (m ∷ ms) = tt
+
+  pub walks-behind : (negated : Bool) (b : Tree) → At (behind negated b) → Found → Walks x k place g place g
+  walks-behind negated b a e = by negated a (and_right (plain b) (negated || is_bare b) (free s ts cells parts behinds k (behind negated b) (at (behind negated b) a)))
+    where
+      by : (n : Bool) → At (behind n b) → (n || is_bare b) ≡ true → Walks x k place g place g
+      by true h z = stays (behind true b) h e (stays-look true place g _) (unless-groups _)
+      by false h z = bare-stays (behind false b) h e z (stays-look false place g _)
 
   pub walks-bare_ahead : (negated : Bool) (b : Tree) → At (ahead negated b) → Found → (negated ≡ true) ⊎ (is_bare b ≡ true) → Walks x k place g place g
   walks-bare_ahead true b a e (inl z) = stays (ahead true b) a e (stays-look true place g _) (unless-groups (matches s b place g))

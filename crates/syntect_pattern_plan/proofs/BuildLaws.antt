@@ -14,7 +14,7 @@ use Rattle.syntect_pattern_plan.specs.declared.cells.CellPart.TheVariants.{Node,
 use Rattle.syntect_pattern_plan.specs.declared.cells.Source.{Source}
 use Rattle.syntect_pattern_plan.specs.declared.cells.Source.TheVariants.{Own, Shared, Beside}
 use Rattle.syntect_pattern_plan.specs.declared.cells.Cell.{Cell}
-use Rattle.syntect_pattern_plan.proofs.TreeLaws.{and_left}
+use Rattle.syntect_pattern_plan.proofs.TreeLaws.{and_left, free-turn}
 use Rattle.syntect_pattern_plan.proofs.CellLaws.{either-bool, real-inside}
 use Rattle.syntect_pattern_plan.proofs.PlanLaws.{grows-join, grows-same}
 
@@ -321,7 +321,7 @@ module _ (ts : List Tree) (old new : List Cell) (number next : ℕ) (greedy : Bo
       let p = same-part ts old number (repeat greedy least most tree) next h in
       let inside = part-next ts old b.cells_are number (repeat greedy least most tree) next next p in
       let free = part-free ts old b.cells_are number (repeat greedy least most tree) next next p in
-      let a = adds-push ts old new c (n ∙ ap (λ (x : Cell). old ++ x ∷ []) same) more b inside inside free refl (more-source h (turn_source number least most)) number_is in
+      let a = adds-push ts old new c (n ∙ ap (λ (x : Cell). old ++ x ∷ []) same) more b inside inside (free-turn greedy least (least - 1) most tree free) refl (more-source h (turn_source number least most)) number_is in
       record {
         extends = a.extends;
         part = a.part;

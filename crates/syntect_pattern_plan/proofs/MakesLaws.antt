@@ -1,8 +1,8 @@
 -- The cells of parts.
 use Rattle.std.proofs.Common.{◌≡◌, ℕ, zero, suc, ◌-◌, ◌<◌, List, length, Bool, true, Option, Some, None, refl, sym, ap, subst, ◌∙◌, arith}
-use Rattle.std.specs.Prelude.{option_map}
+use Rattle.std.specs.Prelude.{◌||◌, option_map}
 use Rattle.syntect_pattern_plan.specs.syntect_pattern.Trees.{Tree, seq, alt, repeat, group}
-use Rattle.syntect_pattern_plan.specs.Onward.{is_free, is_calm}
+use Rattle.syntect_pattern_plan.specs.Onward.{is_free, is_calm, is_once}
 use Rattle.syntect_pattern_plan.specs.Cells.{cell_at, item_tree}
 use Rattle.syntect_pattern_plan.specs.Plan.{IsPart, IsTurn, LooksFor, IsStep, IsStepOf, others, others_of, cells_of}
 use Rattle.syntect_pattern_plan.specs.Build.{IsSame, IsShared, IsBeside, IsSource, AreBuilt, source_cells, cell_cells, Adds, AddsMore, Makes, Expands}
@@ -81,7 +81,7 @@ module _ (ts : List Tree) (old : List Cell) (bs : List ℕ) (number g : ℕ) (b 
       → IsSame ts old number (repeat greedy least most a) g
       → Makes ts old bs g g (repeat greedy least most a) (cells_of (repeat greedy least most a)) (record { first = first; second = 0 }) new bs
   makes-turns mid far new greedy least most a more turn first h1 h2 h3 h =
-      let free : is_free a ≡ true = and_left (is_free a) (is_calm a) (tree-free (repeat greedy least most a) h) in
+      let free : is_free a ≡ true = and_left (is_free a) (is_once most || is_calm a) (tree-free (repeat greedy least most a) h) in
       let inside = next-inside (repeat greedy least most a) h in
       let m = h1 b h in
       let n = h2 m.extends.built m.part.cell.inside free in

@@ -1,6 +1,6 @@
 -- Where the parts of a tree go on.
 use Rattle.std.proofs.Common.{◌≡◌, ◌⊎◌, inl, inr, ℕ, zero, suc, ◌+◌, ◌-◌, ◌≤◌, ◌<◌, List, [], ◌∷◌, length, map, take, Bool, true, false, Option, Some, None, refl, sym, ap, subst, ◌∙◌, arith}
-use Rattle.std.specs.Prelude.{not, ◌&&◌, if◌then◌else◌, ◌==◌, is_some, option_map, option_and_then, IsUtf8, IsCharBoundary}
+use Rattle.std.specs.Prelude.{not, if◌then◌else◌, ◌==◌, is_some, option_map, option_and_then, IsUtf8, IsCharBoundary}
 use Rattle.std.specs.List.{flat_map}
 use Rattle.std.specs.Option.{option_or}
 use Rattle.std.specs.Char.{len_utf8}
@@ -12,9 +12,9 @@ use Rattle.syntect_pattern_plan.specs.syntect_pattern.Matches.{Groups, Member, W
 use Rattle.syntect_pattern_plan.proofs.syntect_pattern_proofs.Each.{Each}
 use Rattle.syntect_pattern_plan.proofs.syntect_pattern_proofs.TurnLaws.{matches-forward, turns_enough}
 use Rattle.syntect_pattern_steps.specs.Steps.{after_char}
-use Rattle.syntect_pattern_plan.specs.Onward.{Onward, reaches, moved, is_free, is_calm, reads, onward, prefer_end, turn_end, end_if}
+use Rattle.syntect_pattern_plan.specs.Onward.{Onward, reaches, moved, is_free, reads, onward, prefer_end, turn_end, end_if}
 use Rattle.syntect_pattern_plan.proofs.ReachLaws.{EachReaches, reaches-append, reaches-ends, reaches-flat_map, reaches-alike}
-use Rattle.syntect_pattern_plan.proofs.TreeLaws.{ends-matches, behind-matches}
+use Rattle.syntect_pattern_plan.proofs.TreeLaws.{free-turn, ends-matches, behind-matches}
 
 or-none : {A : Type 0} (o : Option A) → option_or o None ≡ o
 or-none None = refl
@@ -168,7 +168,7 @@ module _ (s : List ℕ) where
         let inside = c.0 in
         turns_enough s a greedy (length s - i) (suc (length s - j)) least most j h u c (omega (arith, l, inside)) (omega arith)
 
-    pub turn-leads : (greedy : Bool) (least : ℕ) (most : Option ℕ) (a : Tree) → (is_free a && is_calm a) ≡ true → (F : Onward) (i : ℕ)
+    pub turn-leads : (greedy : Bool) (least : ℕ) (most : Option ℕ) (a : Tree) → is_free (repeat greedy least most a) ≡ true → (F : Onward) (i : ℕ)
         → EachReaches (Ahead i) F (λ m. after_turn (m.0 == i) (turns (matches s a) greedy (length s - i) least most) m.0 m.1) (moved i F (onward s (repeat greedy least most a) F))
     unfolding onward
     turn-leads greedy least most a e F i m p =
@@ -188,7 +188,7 @@ module _ (s : List ℕ) where
             ∙ leads (repeat greedy least most a) e F (Ahead i) m p
             ∙ sym (moved-past i m.0 F (onward s (repeat greedy least most a) F) l)
 
-    turn-part : (greedy : Bool) (least : ℕ) (most : Option ℕ) (a : Tree) → (is_free a && is_calm a) ≡ true → (F : Onward) (i : ℕ) → IsCharBoundary s i
+    turn-part : (greedy : Bool) (least : ℕ) (most : Option ℕ) (a : Tree) → is_free (repeat greedy least most a) ≡ true → (F : Onward) (i : ℕ) → IsCharBoundary s i
         → onward s (repeat greedy least most a) F i
         ≡ prefer_end greedy (turn_end most (onward s a (moved i F (onward s (repeat greedy (least - 1) (option_map (λ k. k - 1) most) a) F)) i)) (end_if (least == 0) (F i))
     unfolding onward
@@ -200,7 +200,7 @@ module _ (s : List ℕ) where
         (while-end most F body i []
         ∙ ap (turn_end most)
         (reaches-flat_map (Ahead i) F (moved i F (onward s (repeat greedy (least - 1) less a) F)) _ (matches s a i []) (matches-forward s u a i [] c)
-        (turn-leads greedy (least - 1) less a e F i)))
+        (turn-leads greedy (least - 1) less a (free-turn greedy least (least - 1) most a e) F i)))
         ∙ ap (prefer_end greedy _) (only-end (least == 0) F i [])
 
     pub turn-moved : (t : Tree) (f g : Onward) (i j : ℕ) → i ≤ j → IsCharBoundary s j → moved i (moved i f g) (onward s t (moved i f g)) j ≡ moved i f (following t g g) j
@@ -217,7 +217,7 @@ module _ (s : List ℕ) where
         ]
 
     -- a loop: a turn that reads nothing leaves it
-    pub onward-repeat : (greedy : Bool) (least : ℕ) (most : Option ℕ) (a : Tree) → (is_free a && is_calm a) ≡ true → (f g : Onward) (i : ℕ) → IsCharBoundary s i
+    pub onward-repeat : (greedy : Bool) (least : ℕ) (most : Option ℕ) (a : Tree) → is_free (repeat greedy least most a) ≡ true → (f g : Onward) (i : ℕ) → IsCharBoundary s i
         → onward s (repeat greedy least most a) (moved i f g) i
         ≡ prefer_end greedy (turn_end most (onward s a (moved i f (following (repeat greedy (least - 1) (option_map (λ k. k - 1) most) a) g g)) i)) (end_if (least == 0) (f i))
     onward-repeat greedy least most a e f g i c =

@@ -19,7 +19,7 @@ use Rattle.syntect_pattern_plan.specs.Onward.{Onward, reaches, chosen, onward, e
 use Rattle.syntect_pattern_plan.specs.Sights.{only_at, leads_to, flag_of, row_flag, IsImage, AreBounds, with_place, is_single, single_end, ends_here}
 use Rattle.syntect_pattern_plan.proofs.ReachLaws.{chosen-some}
 use Rattle.syntect_pattern_plan.proofs.TreeLaws.{and_right, plain-free}
-use Rattle.syntect_pattern_plan.proofs.OnwardLaws.{onward-nothing, onward-one_of, onward-anchor, onward-alt, onward-then, first-ends}
+use Rattle.syntect_pattern_plan.proofs.OnwardLaws.{onward-nothing, onward-one_of, onward-anchor, onward-alt, onward-group, onward-then, first-ends}
 use Rattle.syntect_pattern_plan.proofs.ChosenLaws.{chosen-each, chosen-leads, if-some}
 
 -- -- Trees without parts
@@ -261,6 +261,17 @@ module _ (s : List ℕ) (u : IsUtf8 s) where
       | inl z ↦ left-true _ _ (h.complete q j f z)
       | inr z ↦ right-true _ _ (k.complete q j f z)
     ]);
+  }
+
+  group-leads : (n : ℕ) (a : Tree) (q j : ℕ) → leads_to s (group n a) q j ≡ leads_to s a q j
+  unfolding leads_to
+  group-leads n a q j = ap is_some (onward-group s n a (only_at j) q)
+
+  -- a group ends where its body does
+  pub image-group : (n : ℕ) (a : Tree) (before row : List Bool) → IsImage s a before row → IsImage s (group n a) before row
+  image-group n a before row h = record {
+    sound = λ j f. let w = h.sound j f in (w.0, w.1, group-leads n a w.0 j ∙ w.2);
+    complete = λ q j f l. h.complete q j f (sym (group-leads n a q j) ∙ l);
   }
 
   -- -- What a lookbehind looks for

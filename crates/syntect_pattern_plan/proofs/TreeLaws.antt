@@ -1,6 +1,7 @@
 -- What the matches of a tree have in common.
 use Rattle.std.proofs.Common.{◌≡◌, ◌⊎◌, inl, inr, ℕ, zero, suc, ◌+◌, ◌-◌, ◌≤◌, ◌<◌, List, [], ◌∷◌, length, Bool, true, false, Option, Some, None, refl, ap, ◌∙◌, arith}
 use Rattle.std.specs.Prelude.{not, ◌&&◌, ◌||◌, nat_lt, if◌then◌else◌, ◌==◌, slice_set, option_map, IsUtf8, IsCharBoundary}
+use Rattle.std.proofs.lemmas.Bool.Decides.{nat_tests}
 use Rattle.std.specs.List.{flat_map}
 use Rattle.std.specs.Char.{len_utf8}
 use Rattle.syntect_pattern_plan.specs.syntect_pattern.Text.{char_at, is_boundary}
@@ -10,7 +11,7 @@ use Rattle.syntect_pattern_plan.specs.syntect_pattern.Matches.{Groups, Member, W
 use Rattle.syntect_pattern_plan.proofs.syntect_pattern_proofs.Each.{Each, each_of, each-append, each-flat_map, each-map, each-take}
 use Rattle.syntect_pattern_plan.proofs.syntect_pattern_proofs.MatchLaws.{Step, IsClosed, steps-matches}
 use Rattle.syntect_pattern_plan.proofs.syntect_pattern_proofs.TurnLaws.{matches-forward}
-use Rattle.syntect_pattern_plan.specs.Onward.{reads, plain, is_free, is_bare}
+use Rattle.syntect_pattern_plan.specs.Onward.{reads, plain, is_free, is_bare, is_calm}
 use Rattle.syntect_pattern_plan.proofs.ReachLaws.{SameEnds, ends-append, ends-flat_map, ends-map, ends-take}
 
 pub and_left : (a b : Bool) → (a && b) ≡ true → a ≡ true
@@ -20,6 +21,24 @@ and_left false b e = cc
 pub and_right : (a b : Bool) → (a && b) ≡ true → b ≡ true
 and_right true b e = e
 and_right false b e = cc
+
+-- -- The turns of a loop that is free
+
+or-more : (b c d : Bool) → (b ≡ true → c ≡ true) → (b || d) ≡ true → (c || d) ≡ true
+or-more true c d h e = ap (λ (x : Bool). x || d) (h refl)
+or-more false true d h e = refl
+or-more false false d h e = e
+
+once-less : (m : ℕ) → nat_lt m 2 ≡ true → nat_lt (m - 1) 2 ≡ true
+once-less m e = grind (arith, nat_tests)
+
+-- after a turn the loop is free too
+pub free-turn : (greedy : Bool) (least less : ℕ) (most : Option ℕ) (a : Tree) → is_free (repeat greedy least most a) ≡ true
+    → is_free (repeat greedy less (option_map (λ k. k - 1) most) a) ≡ true
+free-turn greedy least less None a e = e
+free-turn greedy least less (Some m) a e =
+    let more : (nat_lt (m - 1) 2 || is_calm a) ≡ true = or-more (nat_lt m 2) (nat_lt (m - 1) 2) (is_calm a) (once-less m) (and_right (is_free a) (nat_lt m 2 || is_calm a) e) in
+    ap (λ (b : Bool). b && (nat_lt (m - 1) 2 || is_calm a)) (and_left (is_free a) (nat_lt m 2 || is_calm a) e) ∙ more
 
 -- -- The ends don't depend on the groups
 
@@ -112,7 +131,7 @@ module _ (s : List ℕ) where
   plain-free (seq a b) e = let l = plain-free a (and_left _ _ e) in let r = plain-free b (and_right (plain a) _ e) in ap (λ x. x && is_free b) l ∙ r
   plain-free (alt a b) e = let l = plain-free a (and_left _ _ e) in let r = plain-free b (and_right (plain a) _ e) in ap (λ x. x && is_free b) l ∙ r
   plain-free (repeat greedy least most a) e = cc
-  plain-free (group n a) e = cc
+  plain-free (group n a) e = plain-free a e
   plain-free (atomic a) e = cc
   plain-free (ahead negated a) e = cc
   plain-free (behind negated a) e = cc
@@ -132,7 +151,7 @@ module _ (s : List ℕ) where
   ends-matches (atomic a) e i g h = ends-take _ _ (ends-matches a e i g h)
   ends-matches (ahead negated a) e i g h = ends-look negated i g h _ _ (ends-matches a e i g h)
   ends-matches (behind negated a) e i g h =
-      ends-look negated i g h _ _ (ends-ending_here (matches s a) (ends-matches a (plain-free a e)) i i g h)
+      ends-look negated i g h _ _ (ends-ending_here (matches s a) (ends-matches a (plain-free a (and_left (plain a) _ e))) i i g h)
 
 -- -- A tree without groups changes none
 
@@ -170,19 +189,6 @@ keeps_groups s = record {
 
 pub bare-groups : (s : List ℕ) → IsUtf8 s → (t : Tree) → is_bare t ≡ true → (i : ℕ) (g : Groups) → Each (λ m. m.1 ≡ g) (matches s t i g)
 bare-groups s u t e i g = steps-matches s u (λ _. true) KeepsGroups (keeps_groups s) true t e i g
-
-pub plain-bare : (t : Tree) → plain t ≡ true → is_bare t ≡ true
-plain-bare nothing e = refl
-plain-bare (one_of a) e = refl
-plain-bare (anchor a) e = refl
-plain-bare (same fold n) e = refl
-plain-bare (seq a b) e = ap (λ x. x && is_bare b) (plain-bare a (and_left _ _ e)) ∙ plain-bare b (and_right (plain a) _ e)
-plain-bare (alt a b) e = ap (λ x. x && is_bare b) (plain-bare a (and_left _ _ e)) ∙ plain-bare b (and_right (plain a) _ e)
-plain-bare (repeat greedy least most a) e = cc
-plain-bare (group n a) e = cc
-plain-bare (atomic a) e = cc
-plain-bare (ahead negated a) e = cc
-plain-bare (behind negated a) e = cc
 
 -- -- A tree that reads goes on
 

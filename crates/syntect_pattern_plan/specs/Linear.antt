@@ -8,7 +8,8 @@ use Rattle.syntect_pattern_plan.specs.Plan.{plan_cells}
 abbrev pub most_cells : ℕ
 most_cells = 40000
 
--- The tree has a plan: there is no back reference, what lookbehinds look for is plain, no lookahead
--- in a loop sets groups, and the cells are not too many.
+-- The tree has a plan: there is no back reference, what lookbehinds look for is plain and sets no
+-- groups, no lookahead in a loop of more turns than one sets groups, and the cells are not too
+-- many.
 abbrev pub is_linear : Tree → Bool
 is_linear t = is_free t && nat_le (plan_cells t) most_cells

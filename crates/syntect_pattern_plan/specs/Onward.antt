@@ -34,13 +34,14 @@ reads (group n a) = reads a
 reads (atomic a) = reads a
 reads _ = false
 
--- a lookbehind can look for the tree: it has neither loops nor groups nor lookarounds
+-- a lookbehind can look for the tree: it has neither loops nor lookarounds
 abbrev pub plain : Tree → Bool
 plain nothing = true
 plain (one_of a) = true
 plain (anchor a) = true
 plain (seq a b) = plain a && plain b
 plain (alt a b) = plain a && plain b
+plain (group n a) = plain a
 plain _ = false
 
 -- the tree has no group
@@ -57,17 +58,22 @@ is_calm (atomic a) = is_calm a
 is_calm (ahead negated a) = negated || is_bare a
 is_calm _ = true
 
--- there is no back reference, what lookbehinds look for is plain,
--- and no lookahead in a loop sets groups
+-- a loop of so many turns takes at most one
+abbrev pub is_once : Option ℕ → Bool
+is_once None = false
+is_once (Some most) = nat_lt most 2
+
+-- there is no back reference, what lookbehinds look for is plain and sets no groups, and no
+-- lookahead in a loop of more turns than one sets groups
 abbrev pub is_free : Tree → Bool
 is_free (same fold n) = false
 is_free (seq a b) = is_free a && is_free b
 is_free (alt a b) = is_free a && is_free b
-is_free (repeat greedy least most a) = is_free a && is_calm a
+is_free (repeat greedy least most a) = is_free a && (is_once most || is_calm a)
 is_free (group n a) = is_free a
 is_free (atomic a) = is_free a
 is_free (ahead negated a) = is_free a
-is_free (behind negated a) = plain a
+is_free (behind negated a) = plain a && (negated || is_bare a)
 is_free _ = true
 
 module _ (s : List ℕ) where

@@ -43,7 +43,8 @@ abbrev pub plan_cells : Tree → ℕ
 plan_cells t = suc (cells_of t)
 
 -- The pattern has no plan of at most so many cells: it has a back reference, or a lookbehind looks
--- for what isn't plain, or a lookahead in a loop sets groups, or it takes more cells.
+-- for what isn't plain or sets groups, or a lookahead in a loop of more turns than one sets groups,
+-- or it takes more cells.
 abbrev pub IsHard : ℕ → Tree → Type 0
 IsHard most t = (is_free t ≡ false) ⊎ (most < plan_cells t)
 

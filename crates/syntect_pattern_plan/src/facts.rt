@@ -1,8 +1,9 @@
 //! What the matches of nodes have in common.
-ghost use Rattle.std.specs.Prelude.{◌≡◌, ℕ, Bool, IfOk, List, Option};
+ghost use Rattle.std.specs.Prelude.{◌≡◌, Bool, IfOk, List};
 ghost use Rattle.syntect_pattern_plan.specs.syntect_pattern.Trees.{Tree, ahead, alt, behind, repeat, seq};
 ghost use Rattle.syntect_pattern_plan.specs.syntect_pattern_table.Table.{node_tree, trees};
 ghost use Rattle.syntect_pattern_plan.specs.Facts as spec;
+ghost use Rattle.syntect_pattern_plan.specs.Onward as onward;
 ghost use Rattle.syntect_pattern_plan.specs.Facts.{AreFacts};
 
 use crate::syntect_pattern_table::node::Node;
@@ -16,7 +17,8 @@ pub struct Facts {
     pub reads: bool,
     /// A lookbehind can look for the node.
     pub plain: bool,
-    /// There is no back reference, and what lookbehinds look for is plain.
+    /// There is no back reference, what lookbehinds look for is plain and sets no groups, and no
+    /// lookahead in a loop of more turns than one sets groups.
     pub free: bool,
     /// There is no group.
     pub bare: bool,
@@ -87,15 +89,25 @@ fn one_of_two(a: Facts, b: Facts) -> Facts
     }
 }
 
-/// A part again and again, at least so many times.
-fn in_loop(a: Facts, least: u32) -> Facts
-    ensures { (greedy : Bool) (most : Option ℕ) (t : Tree) → a ≡ spec.facts_of t
+/// Whether a loop of so many turns takes at most one.
+fn is_once(most: Option<u32>) -> bool
+    ensures { result ≡ onward.is_once most }
+{
+    match most {
+        Some(most) => most < 2,
+        None => false,
+    }
+}
+
+/// A part again and again, at least so many times and at most so many, if there is a limit.
+fn in_loop(a: Facts, least: u32, most: Option<u32>) -> Facts
+    ensures { (greedy : Bool) (t : Tree) → a ≡ spec.facts_of t
         → result ≡ spec.facts_of (repeat greedy least most t) }
 {
     Facts {
         reads: least > 0 && a.reads,
         plain: false,
-        free: a.free && a.calm,
+        free: a.free && (is_once(most) || a.calm),
         ..a
     }
 }
@@ -114,14 +126,14 @@ fn in_lookahead(a: Facts, negated: bool) -> Facts
 }
 
 /// A part looked for behind.
-fn in_lookbehind(a: Facts) -> Facts
-    ensures { (negated : Bool) (t : Tree) → a ≡ spec.facts_of t
+fn in_lookbehind(a: Facts, negated: bool) -> Facts
+    ensures { (t : Tree) → a ≡ spec.facts_of t
         → result ≡ spec.facts_of (behind negated t) }
 {
     Facts {
         reads: false,
         plain: false,
-        free: a.plain,
+        free: a.plain && (negated || a.bare),
         bare: a.bare,
         calm: true,
     }
@@ -143,9 +155,13 @@ fn node_facts(node: &Node, before: &[Facts]) -> Facts
         Node::Alternation(first, second) => {
             one_of_two(facts_at(before, *first), facts_at(before, *second))
         }
-        Node::Repeat { least, body, .. } => in_loop(facts_at(before, *body), *least),
+        Node::Repeat {
+            least,
+            most,
+            body,
+            ..
+        } => in_loop(facts_at(before, *body), *least, *most),
         Node::Group { body, .. } => Facts {
-            plain: false,
             bare: false,
             ..facts_at(before, *body)
         },
@@ -154,7 +170,7 @@ fn node_facts(node: &Node, before: &[Facts]) -> Facts
             ..facts_at(before, *body)
         },
         Node::Ahead { negated, body } => in_lookahead(facts_at(before, *body), *negated),
-        Node::Behind { body, .. } => in_lookbehind(facts_at(before, *body)),
+        Node::Behind { negated, body } => in_lookbehind(facts_at(before, *body), *negated),
     }
 }
 

@@ -468,8 +468,8 @@ impl Plan {
 
     /// The plan of a program none of whose nodes holds letters in a row, in a step for each cell.
     /// There is none for a pattern that has a back reference, a lookbehind for more than
-    /// characters, anchors, sequences and branches, or a lookahead in a loop that sets groups, nor
-    /// where too many cells are needed.
+    /// characters, anchors, sequences and branches, and groups if it is negated, or a lookahead
+    /// that sets groups in a loop of more turns than one, nor where too many cells are needed.
     pub fn new(
         alloc: Global,
         program: &Program,

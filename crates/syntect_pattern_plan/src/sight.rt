@@ -125,6 +125,7 @@ fn past(
             let other = past(alloc, program, text, *second, before)?;
             either(alloc, one.as_slice(), other.as_slice())
         }
+        Some(Node::Group { body, .. }) => past(alloc, program, text, *body, before),
         Some(node) => past_single(alloc, text, node, before),
         None => past_single(alloc, text, &Node::Nothing, before),
     }

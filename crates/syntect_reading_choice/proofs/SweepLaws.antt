@@ -8,7 +8,7 @@ use Rattle.std.proofs.lemmas.List.{append-nil, get_or_default, take_all}
 use Rattle.std.proofs.Math.Seq.{take-length}
 use Rattle.std.proofs.lemmas.List.Elements.{All-get_or}
 use Rattle.syntect_reading_choice.specs.syntect_pattern.Pattern.{pattern_found}
-use Rattle.syntect_reading_choice.specs.syntect_regex.Begins.{BeginsAtEdges, NoneBeginsBefore, NoneBeginsOutside}
+use Rattle.syntect_reading_choice.specs.syntect_regex.Begins.{BeginsAtEdges, BeginsAtLines, NoneBeginsBefore, NoneBeginsOutside}
 use Rattle.syntect_reading_choice.specs.syntect_grammar_contexts.Substitution.{Opening}
 use Rattle.syntect_reading_choice.specs.syntect_grammar_contexts.declared.context.MatchPattern.{MatchPattern}
 use Rattle.syntect_reading_choice.specs.syntect_grammar.Flats.{IsOpen, Tells, pattern_at}
@@ -61,7 +61,8 @@ reaches_on line i j r l h m =
 pub ruled_out : (o : Outlook) (line : List ℕ) (i : ℕ) (flat : Flat) → Sees o line i → IsOut o flat → IsRuledOut line i flat
 ruled_out o line i flat s (inl e) = inl (sym (ap (is_in flat.begins) s.here) ∙ e)
 ruled_out o line i flat s (inr (inl e)) = inr (inl (record { blank = o.blank; end = s.end; run = s.run; out = sym (ap (is_in (behind_of o.blank flat)) s.behind) ∙ e }))
-ruled_out o line i flat s (inr (inr p)) = inr (inr (p.1, s.edges p.0))
+ruled_out o line i flat s (inr (inr (inl p))) = inr (inr (inl (p.1, s.edges p.0)))
+ruled_out o line i flat s (inr (inr (inr p))) = inr (inr (inr (p.1, s.lines p.0)))
 
 module _ (finds : FindsInText dialect) (reader : LineReader) (i : ℕ) (run : Run) where
   abbrev flats : List Flat
@@ -145,13 +146,14 @@ module _ (finds : FindsInText dialect) (reader : LineReader) (i : ℕ) (run : Ru
             at_end : (blank : Bool) → is_in (behind_of blank flat) (start_at reader.line.now cut.end) ≡ false → ⊥
             at_end false e = never (is_in flat.words (start_at reader.line.now cut.end)) (o.words (start_at reader.line.now cut.end)) e
             at_end true e = never (is_in flat.blanks (start_at reader.line.now cut.end)) (o.blanks (start_at reader.line.now cut.end)) e
-        ruled o (inr (inr off)) = never flat.at_edges off.0 o.edges
+        ruled o (inr (inr (inl off))) = never flat.at_edges off.0 o.edges
+        ruled o (inr (inr (inr off))) = never flat.at_lines off.0 o.lines
 
         by : (b : Bool) → flat.has_captures ≡ b → flat.has_captures ≡ false
         by false e = e
         by true e = absurd (ruled (told e) out)
 
-    none_here : (flat : Flat) (pattern : List ℕ) → NoneBeginsOutside flat.begins pattern × NoneBeginsBefore false flat.words pattern × NoneBeginsBefore true flat.blanks pattern × (flat.at_edges ≡ true → BeginsAtEdges pattern) → IsRuledOut reader.line.now i flat
+    none_here : (flat : Flat) (pattern : List ℕ) → NoneBeginsOutside flat.begins pattern × NoneBeginsBefore false flat.words pattern × NoneBeginsBefore true flat.blanks pattern × (flat.at_edges ≡ true → BeginsAtEdges pattern) × (flat.at_lines ≡ true → BeginsAtLines pattern) → IsRuledOut reader.line.now i flat
         → pattern_found pattern reader.line.now i ≡ pattern_found pattern reader.line.now (i + 1)
     none_here flat pattern h (inl out) = h.0 reader.line.now reader.text i out
     none_here flat pattern h (inr (inl cut)) = by cut.blank cut.run cut.out
@@ -160,17 +162,18 @@ module _ (finds : FindsInText dialect) (reader : LineReader) (i : ℕ) (run : Ru
             → pattern_found pattern reader.line.now i ≡ pattern_found pattern reader.line.now (i + 1)
         by false run out = h.1 reader.line.now reader.text i cut.end run out
         by true run out = h.2 reader.line.now reader.text i cut.end run out
-    none_here flat pattern h (inr (inr off)) = h.3 off.0 reader.line.now i off.1
+    none_here flat pattern h (inr (inr (inl off))) = h.3 off.0 reader.line.now i off.1
+    none_here flat pattern h (inr (inr (inr off))) = h.4 off.0 reader.line.now i off.1
 
     pub passes : (lost : Bool) (k : ℕ) (d : Flat) → k < length flats → IsRuledOut reader.line.now i (get_or flats k d)
         → ((m : MatchPattern) → pattern_at reader.set.now (get_or flats k d) ≡ Some m → IsAhead reader lost i (part_member run.part m))
         → (m : MatchPattern) → pattern_at reader.set.now (get_or flats k d) ≡ Some m → IsAhead reader lost (i + 1) (part_member run.part m)
     passes lost k d l out a m e =
         let told : Tells reader.set.now (get_or flats k d) = All-get_or (Tells reader.set.now) flats k d l r.flats.tells in
-        let begins : (((get_or flats k d).has_captures ≡ m.has_captures)) × NoneBeginsOutside (get_or flats k d).begins m.regex × NoneBeginsBefore false (get_or flats k d).words m.regex × NoneBeginsBefore true (get_or flats k d).blanks m.regex × ((get_or flats k d).at_edges ≡ true → BeginsAtEdges m.regex)
+        let begins : (((get_or flats k d).has_captures ≡ m.has_captures)) × NoneBeginsOutside (get_or flats k d).begins m.regex × NoneBeginsBefore false (get_or flats k d).words m.regex × NoneBeginsBefore true (get_or flats k d).blanks m.regex × ((get_or flats k d).at_edges ≡ true → BeginsAtEdges m.regex) × ((get_or flats k d).at_lines ≡ true → BeginsAtLines m.regex)
         × ((get_or flats k d).has_captures ≡ true → IsOpen (get_or flats k d)) = rw e at told in
-        let same : m.regex ≡ searched_text dialect m (option_copied run.part.opening) = own_text m (sym begins.0 ∙ no_captures (get_or flats k d) begins.5 out) in
-        ahead_next reader (part_member run.part m) lost i (a m e) (rw same at (none_here (get_or flats k d) m.regex (begins.1, begins.2, begins.3, begins.4) out))
+        let same : m.regex ≡ searched_text dialect m (option_copied run.part.opening) = own_text m (sym begins.0 ∙ no_captures (get_or flats k d) begins.6 out) in
+        ahead_next reader (part_member run.part m) lost i (a m e) (rw same at (none_here (get_or flats k d) m.regex (begins.1, begins.2, begins.3, begins.4, begins.5) out))
 
     -- those between two indexes that can't begin here change nothing,
     pub skipped : (marks : List Bool) (b : Best) (ms : List Live) (j k : ℕ) → j ≤ k

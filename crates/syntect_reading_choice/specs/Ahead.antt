@@ -2,7 +2,8 @@
 use Rattle.std.specs.Prelude.{◌≡◌, ℕ, ◌+◌, ◌<◌, ◌≤◌, ◌⊎◌, Bool, true, false, List, [], ◌∷◌, ◌++◌, length, Option, Some, None, unwrap_or, slice_index_or}
 use Rattle.std.specs.List.{All, cons_option, flat_map}
 use Rattle.std.specs.Option.{option_copied}
-use Rattle.syntect_reading_choice.specs.syntect_pattern.Matches.{is_word_edge}
+use Rattle.syntect_reading_choice.specs.syntect_pattern.declared.anchor.Anchor.{Anchor}
+use Rattle.syntect_reading_choice.specs.syntect_pattern.Matches.{anchor_holds, is_word_edge}
 use Rattle.syntect_reading_choice.specs.syntect_pattern_table.Starts.{is_in, start_at}
 use Rattle.syntect_reading_choice.specs.syntect_grammar_contexts.declared.context.MatchPattern.{MatchPattern}
 use Rattle.syntect_reading_choice.specs.syntect_pattern_table.declared.starts.Places.{Places}
@@ -84,6 +85,7 @@ pub record Sees (o : Outlook) (line : List ℕ) (i : ℕ) : Type 0 where
   pub run : IsRunUpTo o.blank line i end
   pub behind : o.behind ≡ start_at line end
   pub edges : o.off_edges ≡ true → is_word_edge line i ≡ false
+  pub lines : o.off_lines ≡ true → anchor_holds line Anchor.LineStart i ≡ false
 
 -- what is known of white space, or else a word that goes on at the place: up to where it does, and
 -- what comes after it
@@ -105,7 +107,8 @@ pub record IsCutOff (line : List ℕ) (i : ℕ) (flat : Flat) : Type 0 where
 abbrev pub IsRuledOut : List ℕ → ℕ → Flat → Type 0
 IsRuledOut line i flat =
     (is_in flat.begins (start_at line i) ≡ false)
-    ⊎ (IsCutOff line i flat ⊎ ((flat.at_edges ≡ true) × (is_word_edge line i ≡ false)))
+    ⊎ (IsCutOff line i flat ⊎ (((flat.at_edges ≡ true) × (is_word_edge line i ≡ false))
+    ⊎ ((flat.at_lines ≡ true) × (anchor_holds line Anchor.LineStart i ≡ false))))
 
 -- no pattern of the part can begin with this, as its list tells
 abbrev pub IsQuiet : ℕ → Run → Type 0

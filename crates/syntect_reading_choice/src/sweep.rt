@@ -3,7 +3,8 @@
 ghost use Rattle.std.specs.Prelude.{◌≡◌, ◌⊎◌, ◌≤◌, ◌<◌, ◌+◌, ◌*◌, Bool, List, ℕ, length, IfErr, IfOk, OnOk, Some, None, true, false, slice_index_or, unwrap_or};
 ghost use Rattle.std.specs.Option.{option_copied};
 ghost use Rattle.std.specs.List.{All, flat_map};
-ghost use Rattle.syntect_reading_choice.specs.syntect_pattern.Matches.{is_word_edge};
+ghost use Rattle.syntect_reading_choice.specs.syntect_pattern.Matches.{anchor_holds, is_word_edge};
+ghost use Rattle.syntect_reading_choice.specs.syntect_pattern.declared.anchor.Anchor.TheVariants.{LineStart};
 ghost use Rattle.syntect_reading_choice.specs.syntect_pattern_table.Starts.{is_in, start_at};
 ghost use Rattle.syntect_reading_choice.specs.syntect_pattern.Text.{is_boundary};
 ghost use Rattle.syntect_reading_choice.specs.syntect_pattern_word_ends.Ends.{IsRunUpTo};
@@ -49,6 +50,13 @@ fn is_off_edges(line: &str, place: usize) -> bool
     ensures { result ≡ true → is_word_edge line.now place ≡ false }
 {
     is_boundary(line, place) && !anchor_holds(line, place, Anchor::WordEdge)
+}
+
+/// Whether no line begins at the place.
+fn is_off_lines(line: &str, place: usize) -> bool
+    ensures { result ≡ true → anchor_holds line.now LineStart place ≡ false }
+{
+    place > 0 && is_boundary(line, place) && !anchor_holds(line, place, Anchor::LineStart)
 }
 
 /// Up to where white space, or else a word goes on, and what comes after it.
@@ -117,12 +125,14 @@ fn outlook_of(line: &str, place: usize, asks: bool, reach: &mut Reach, tried: us
 {
     let here = start_at(line, place);
     let off_edges = (here >= 128 || is_word_byte(here)) && is_off_edges(line, place);
+    let off_lines = is_off_lines(line, place);
     if !asks {
         return Outlook {
             here,
             blank: false,
             behind: here,
             off_edges,
+            off_lines,
         };
     }
     let seen = reach_at(line, place, here, *reach, tried);
@@ -132,6 +142,7 @@ fn outlook_of(line: &str, place: usize, asks: bool, reach: &mut Reach, tried: us
         blank: seen.blank,
         behind: seen.behind,
         off_edges,
+        off_lines,
     }
 }
 

@@ -4,7 +4,8 @@ use Rattle.std.specs.Prelude.{slice_get, option_and_then, option_map, if◌then�
 use Rattle.std.proofs.lemmas.Option.{slice_get_within, get_or_from_slice_get}
 use Rattle.syntect_regex.specs.syntect_pattern.Text.{is_boundary}
 use Rattle.syntect_regex.specs.syntect_pattern.Trees.{Tree, nothing, group}
-use Rattle.syntect_regex.specs.syntect_pattern.Matches.{Member, found, found_at, is_word_edge, matches, unset}
+use Rattle.syntect_regex.specs.syntect_pattern.Matches.{Member, anchor_holds, found, found_at, is_word_edge, matches, unset}
+use Rattle.syntect_regex.specs.syntect_pattern.declared.anchor.Anchor.{Anchor}
 use Rattle.syntect_regex.specs.syntect_pattern.Pattern.{pattern_tree}
 use Rattle.syntect_regex.specs.syntect_pattern_table.Program.{trees_of}
 use Rattle.syntect_regex.specs.syntect_pattern_table.Starts.{is_in, reads, start_at, stays}
@@ -14,7 +15,7 @@ use Rattle.syntect_regex.proofs.syntect_pattern_table_proofs.BeginLaws.{start-bo
 use Rattle.syntect_regex.proofs.syntect_pattern_table_proofs.StartLaws.{found_at-nothing}
 use Rattle.syntect_pattern_seek.proofs.NextLaws.{found-next, pattern-next}
 use Rattle.syntect_regex.specs.syntect_pattern_compile.Compiled.{Compiles, IsCompiled}
-use Rattle.syntect_regex.specs.Begins.{BeginsAtEdges, IsAtEdges, NoneBeginsBefore, NoneBeginsOutside}
+use Rattle.syntect_regex.specs.Begins.{BeginsAtEdges, BeginsAtLines, IsAtEdges, IsAtLines, NoneBeginsBefore, NoneBeginsOutside}
 use Rattle.syntect_pattern_word_ends.specs.Ends.{StandsBehind, ends, passes}
 use Rattle.syntect_pattern_word_ends.proofs.EndLaws.{none-in_run}
 
@@ -48,6 +49,21 @@ none-off-edges s tree i h out = go (is_boundary s i)
 pub edges-found : (pattern : List ℕ) (p : Program) → IsCompiled pattern p → IsAtEdges (get_or (trees_of p) p.root nothing) → BeginsAtEdges pattern
 edges-found pattern p is h s i out =
     pattern-next s pattern is.tree i is.reads (found-next s is.tree i (none-off-edges s is.tree i (subst IsAtEdges is.program.root h) out))
+
+-- ---- where lines begin ----
+
+none-off-lines : (s : List ℕ) (tree : Tree) (i : ℕ) → IsAtLines (group 0 tree) → anchor_holds s Anchor.LineStart i ≡ false → found_at s tree i ≡ None
+unfolding found_at
+none-off-lines s tree i h out = go (is_boundary s i)
+  where
+    go : (b : Bool) → (if b then option_map (λ (m : Member). m.1) (slice_get (matches s (group 0 tree) i (unset s tree)) 0) else None) ≡ None
+    go true = ap (λ (ms : List Member). option_map (λ (m : Member). m.1) (slice_get ms 0)) (h s i (unset s tree) out)
+    go false = refl
+
+-- a program whose root has no match but there
+pub lines-found : (pattern : List ℕ) (p : Program) → IsCompiled pattern p → IsAtLines (get_or (trees_of p) p.root nothing) → BeginsAtLines pattern
+lines-found pattern p is h s i out =
+    pattern-next s pattern is.tree i is.reads (found-next s is.tree i (none-off-lines s is.tree i (subst IsAtLines is.program.root h) out))
 
 -- ---- in runs ----
 

@@ -16,8 +16,9 @@ whole_bound None size long = long * 64 + 16384
 whole_bound (Some t) size long = tree_bound (group 0 t) size long
 
 -- Each search of the pattern takes steps in proportion to the text: it has no back reference, its
--- lookbehinds look for nothing but characters, anchors, sequences and branches, no lookahead in a
--- loop sets groups, and its plan is not too large.
+-- lookbehinds look for nothing but characters, anchors, sequences and branches, and, if they are
+-- negated, groups, no lookahead sets groups in a loop of more turns than one, and its plan is not
+-- too large.
 abbrev pub pattern_is_linear : List ℕ → Bool
 pattern_is_linear pattern = is_linear_whole (pattern_tree pattern)
 

@@ -2,6 +2,7 @@
 #![tactic(auto)]
 
 pub mod below;
+mod body;
 mod compiled;
 mod details;
 mod edges;

@@ -4,7 +4,7 @@ ghost use Rattle.syntect_regex.specs.syntect_pattern.Trees.{nothing};
 ghost use Rattle.syntect_regex.specs.syntect_pattern_compile.Compiled.{Compiles};
 ghost use Rattle.syntect_regex.specs.syntect_pattern_table.Program.{trees_of};
 ghost use Rattle.syntect_regex.specs.syntect_pattern_table.declared.program.Program.{Program};
-ghost use Rattle.syntect_regex.specs.Begins.{BeginsAtEdges, NoneBeginsOutside};
+ghost use Rattle.syntect_regex.specs.Begins.{BeginsAtEdges, BeginsAtLines, NoneBeginsOutside};
 ghost use Rattle.syntect_regex.specs.Details.{KnowsGroups};
 ghost use Rattle.syntect_regex.specs.Outline.{IsOutlineOf};
 ghost use Rattle.syntect_pattern_word_ends.specs.Ends.{StandsBehind};
@@ -13,7 +13,7 @@ use crate::below::pattern_table::program::Program;
 use crate::below::pattern_table::starts::{Places, anywhere, nowhere};
 use crate::below::values::seq::Seq;
 use crate::details::Details;
-use crate::edges::is_at_edges;
+use crate::edges::{is_at_edges, is_at_lines};
 use crate::looks::looks_in;
 use std::alloc::{AllocError, Global};
 use syntect_pattern_word_ends::ends::behind_runs;
@@ -26,6 +26,8 @@ pub(crate) struct Outline {
     pub begins: Places,
     /// Whether a match is seen at once to begin where a word does, or ends.
     pub at_edges: bool,
+    /// Whether a match is seen at once to begin where a line does.
+    pub at_lines: bool,
     pub details: Details,
 }
 
@@ -42,6 +44,7 @@ impl Outline {
         Ok(Outline {
             begins: begins_of(program),
             at_edges: edges_of(program),
+            at_lines: lines_of(program),
             details,
         })
     }
@@ -68,6 +71,17 @@ fn edges_of(program: &Option<Program>) -> bool
 {
     match program {
         Some(program) => is_at_edges(program),
+        None => false,
+    }
+}
+
+/// Whether matches of the program are seen at once to begin where lines do.
+fn lines_of(program: &Option<Program>) -> bool
+    ensures { (pattern : List ℕ) → Compiles pattern program.now
+        → result ≡ true → BeginsAtLines pattern }
+{
+    match program {
+        Some(program) => is_at_lines(program),
         None => false,
     }
 }

@@ -9,9 +9,8 @@ ghost use Rattle.syntect_regex.specs.syntect_pattern.Pattern.{pattern_tree, patt
 ghost use Rattle.syntect_regex.specs.syntect_pattern.Found.{GroupsLie};
 ghost use Rattle.syntect_regex.specs.syntect_pattern_compile.Compiled.{Compiles};
 ghost use Rattle.syntect_regex.specs.syntect_pattern.declared.error.PatternError.{PatternError};
-ghost use Rattle.syntect_regex.specs.Body.{outline_in};
 ghost use Rattle.syntect_regex.specs.Bounds.{pattern_is_linear, search_bound};
-ghost use Rattle.syntect_regex.specs.Begins.{NoneBeginsBefore, NoneBeginsOutside, BeginsAtEdges};
+ghost use Rattle.syntect_regex.specs.Begins.{NoneBeginsBefore, NoneBeginsOutside, BeginsAtEdges, BeginsAtLines};
 ghost use Rattle.syntect_pattern_seek.specs.Depths.{AreDepthsIn};
 ghost use Rattle.syntect_pattern_seek.specs.Prospect.{IsProspectOf};
 ghost use Rattle.syntect_regex.specs.syntect_count.Meter.{Advances, StopsAt};
@@ -28,8 +27,8 @@ use crate::below::pattern_plan::plan::Plan;
 use crate::below::pattern_plan::spelt::spelt;
 use crate::below::pattern_table::program::Program;
 use crate::below::pattern_table::starts::Places;
+use crate::body::RegexBody;
 use crate::compiled::{Kept, program_in};
-use crate::details::Details;
 use crate::error::PatternError;
 use crate::outline::Outline;
 use crate::region::Region;
@@ -50,56 +49,6 @@ const LONG: usize = 4096;
 /// searched take little memory. One of more than 4096 bytes keeps its program at once.
 pub struct Regex {
     body: Box<RegexBody>,
-}
-
-/// What a pattern keeps, in a place of its own: an entry of a context has room for a pattern also
-/// where it holds none, and that room is to be small.
-#[derive(Drop)]
-struct RegexBody {
-    /// What can stand where a match begins, part by part, which takes less room than `Places`.
-    ascii: u128,
-    text: String,
-    kept: Kept,
-    details: Details,
-    wide: bool,
-    end: bool,
-    /// Whether a match is seen at once to begin where a word does, or ends.
-    at_edges: bool,
-}
-
-impl RegexBody {
-    /// What is kept of a pattern.
-    fn new(text: String, kept: Kept, outline: Outline) -> RegexBody
-        ensures text { result.text ≡ text }
-        ensures kept { result.kept ≡ kept }
-        ensures outline { outline_in result ≡ outline }
-    {
-        let Outline {
-            begins,
-            at_edges,
-            details,
-        } = outline;
-        RegexBody {
-            ascii: begins.ascii,
-            text,
-            kept,
-            details,
-            wide: begins.wide,
-            end: begins.end,
-            at_edges,
-        }
-    }
-
-    /// What can stand at a place where a match begins.
-    fn begins(&self) -> Places
-        ensures { result ≡ (outline_in self.now).begins }
-    {
-        Places {
-            ascii: self.ascii,
-            wide: self.wide,
-            end: self.end,
-        }
-    }
 }
 
 /// Written out, so that crates above call it and needn't prove each part's drop again.
@@ -211,6 +160,14 @@ impl Regex {
         self.body.at_edges
     }
 
+    /// Whether the pattern is seen at once to begin with `^`, each branch of it: then a match of it
+    /// begins where a line does alone. Without it nothing is known.
+    pub fn begins_at_lines(&self) -> bool
+        ensures { result ≡ true → BeginsAtLines self.now }
+    {
+        self.body.at_lines
+    }
+
     /// What can come after a word in which a match begins: in a word that has something else after
     /// it none begins. The word's characters are those of ASCII.
     pub fn behind_words(&self) -> Places
@@ -229,8 +186,9 @@ impl Regex {
 
     /// Whether each search takes steps in proportion to the text: those of a pattern without back
     /// references, whose lookbehinds look for nothing but characters, anchors, sequences and
-    /// branches, in which no lookahead in a loop sets groups, and which is not too large with its
-    /// counted loops written out. A text that is no pattern is searched in no step.
+    /// branches, and, if they are negated, groups, in which no lookahead sets groups in a loop of
+    /// more turns than one, and which is not too large with its counted loops written out. A text
+    /// that is no pattern is searched in no step.
     pub fn is_linear(&self, alloc: Global) -> Result<bool, AllocError>
         ensures { IfOk result (λ linear. linear ≡ pattern_is_linear self.now) }
     {
@@ -254,6 +212,7 @@ impl Regex {
             wide: self.body.wide,
             end: self.body.end,
             at_edges: self.body.at_edges,
+            at_lines: self.body.at_lines,
         };
         let body = Box::new(alloc, parts)?;
         Ok(Regex { body })

@@ -16,8 +16,7 @@ const PLAIN: &str =
 
 /// The patterns of `main` have 1, 2, 3 and 6 bytes: `e`, then `xy`, at which the `escape` leaves,
 /// `abc` and `(?=xy)`, which looks ahead for the `escape`. The second and the last use a variable:
-/// they count as 66 and 70 bytes, and all together as
-/// 140. An item that sets something has none.
+/// they count as 66 and 70 bytes, and all together as 140. An item that sets something has none.
 const ESCAPED: &str =
     "scope: source.t\nvariables: {a: xy}\ncontexts:\n  main:\n    - {meta_scope: m.t, match: none}\n    - match: e\n      embed: [{match: abc}]\n      escape: '{{a}}'\n";
 

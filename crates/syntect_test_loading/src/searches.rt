@@ -173,15 +173,20 @@ fn tells_what_stands_behind_a_match_begun(rt: HostRuntime) {
     }
 }
 
-/// A pattern, and whether it is seen to begin where a word begins or ends.
-const AT_EDGES: [(&str, bool); 3] = [("\\bword", true), ("(\\b(a|b))c", true), ("word\\b", false)];
+/// A pattern, and whether it is seen to begin where a word begins or ends, and where a line begins.
+const AT_EDGES: [(&str, bool, bool); 3] = [
+    ("(\\b(a|b))c", true, false),
+    ("^a|(?=^b)", false, true),
+    ("word\\b|^", false, false),
+];
 
 #[test]
 fn tells_which_patterns_begin_at_edges(rt: HostRuntime) {
-    for (pattern, wanted) in AT_EDGES {
+    for (pattern, edges, lines) in AT_EDGES {
         let text = String::from_str(rt.alloc(), pattern).expect(&rt, "memory");
         let regex = Regex::new(rt.alloc(), text).expect(&rt, "memory");
-        equal(&rt, regex.begins_at_edges(), wanted);
+        equal(&rt, regex.begins_at_edges(), edges);
+        equal(&rt, regex.begins_at_lines(), lines);
     }
 }
 

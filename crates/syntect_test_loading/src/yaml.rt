@@ -1,3 +1,4 @@
+//! YAML: what is read of it, and where it is refused.
 use crate::below::yaml::error::ReadError;
 use crate::below::yaml::read::{LinePlace, read, refused_at};
 use crate::below::yaml::value::{Scalar, Yaml};

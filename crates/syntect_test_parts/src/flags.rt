@@ -1,3 +1,4 @@
+//! Font styles as flags.
 use crate::below::theme::style::FontStyle;
 use crate::found::{equal, holds};
 

@@ -1,3 +1,4 @@
+//! Patterns as they are rewritten: variables, references, ends of lines.
 use crate::below::values::table::Table;
 use crate::below::values::text::Text;
 use crate::found::{equal, holds};

@@ -1,3 +1,4 @@
+//! Scopes and their texts.
 use crate::below::scope::power::MatchPower;
 use crate::below::scope::repository::{ParseScopeError, ScopeRepository};
 use crate::below::scope::scope::Scope;

@@ -1,3 +1,4 @@
+//! Selectors and their texts.
 use crate::below::scope::repository::{ParseScopeError, ScopeRepository};
 use crate::below::scope::selector::{ScopeSelector, ScopeSelectors};
 use crate::found::{equal, holds};

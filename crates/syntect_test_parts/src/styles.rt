@@ -1,3 +1,4 @@
+//! Styles: the rules that win, and ties.
 use crate::below::scope::power::MatchPower;
 use crate::below::scope::repository::ScopeRepository;
 use crate::below::scope::scope::Scope;

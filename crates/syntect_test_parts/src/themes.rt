@@ -1,3 +1,4 @@
+//! Themes: their settings and rules.
 use crate::below::base::loading::{LoadingError, SettingsError};
 use crate::below::scope::repository::ScopeRepository;
 use crate::below::scope::selector::ScopeSelectors;

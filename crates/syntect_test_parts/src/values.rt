@@ -1,3 +1,4 @@
+//! Lists, texts and tables.
 ghost use Rattle.std.specs.Prelude.{◌≡◌, ◌↔◌, IsTrue, IfOk};
 
 use crate::below::values::seq::Seq;

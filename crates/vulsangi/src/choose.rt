@@ -3,16 +3,16 @@ use std::io::Read;
 use std::path::Path;
 use std::rt::{Env, Files};
 use std::{env, fs};
-use syntect::Error;
 use syntect::assets::{Assets, AssetsError};
 use syntect::highlighting::Theme;
-use syntect::parsing::{
-    FindWithinError, GhostCount, SyntaxReference, find_syntax_by_first_line_within,
-};
+use syntect::parsing::SyntaxReference;
 use syntect::values::Text;
+use vulsangi_check::vulsangi_grammar::nearest::language_called;
+use vulsangi_doctor::run::syntax_of_file;
 use vulsangi_words::words::Asked;
 
-/// The theme of a name, or else of a file, where the name has a slash or an extension.
+/// The theme that is asked for: by its name, or else in a file, where the name has a slash or an
+/// extension.
 pub fn theme_of(
     rt: &(impl AllocGlobal + Files),
     assets: &mut Assets,
@@ -114,28 +114,8 @@ pub fn text_of<'a>(
     Ok(String::from_utf8_lossy(rt.alloc(), bytes.as_slice())?)
 }
 
-/// The language of a first line, within the limits.
-fn language_of_line<'s>(
-    rt: &impl AllocGlobal,
-    assets: &'s Assets,
-    line: &str,
-) -> Result<Option<&'s SyntaxReference>, AssetsError> {
-    let mut count = GhostCount::none();
-    let found = find_syntax_by_first_line_within(
-        rt.alloc(),
-        &assets.set,
-        line,
-        &assets.limits,
-        &mut count,
-    );
-    match found {
-        Ok(syntax) => Ok(syntax),
-        Err(FindWithinError::LimitReached(_)) => Ok(None),
-        Err(FindWithinError::Refused(e)) => Err(AssetsError::from(e)),
-    }
-}
-
-/// The language that is asked for, or that of a text's name or first line, or else plain text.
+/// The language of a text: the one that is asked for, or that of its name, or of its first line, or
+/// else plain text.
 pub fn language_of<'s>(
     rt: &impl AllocGlobal,
     assets: &'s Assets,
@@ -144,22 +124,12 @@ pub fn language_of<'s>(
     text: &str,
 ) -> Result<&'s SyntaxReference, AssetsError> {
     if let Some(name) = asked.language {
-        return assets.language(rt.alloc(), name);
+        return language_called(rt.alloc(), assets, name);
     }
     let name = if file == "-" {
         asked.file_name.unwrap_or("")
     } else {
         file
     };
-    if let Some(syntax) = assets.set.find_syntax_by_file_name(Path::new(name)) {
-        return Ok(syntax);
-    }
-    let line = text.lines().next().unwrap_or("");
-    if let Some(syntax) = language_of_line(rt, assets, line)? {
-        return Ok(syntax);
-    }
-    match assets.set.find_syntax_plain_text() {
-        Some(syntax) => Ok(syntax),
-        None => Err(AssetsError::from(Error::NoSyntax)),
-    }
+    syntax_of_file(rt, assets, name, text)
 }

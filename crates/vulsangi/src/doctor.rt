@@ -81,7 +81,7 @@ fn scopes(
     let mut assets = loaded(rt, words.get_raw("grammars"))?;
     let theme = theme_of(rt, &mut assets, words.get_str("theme").unwrap_or("dusk"))?;
     let place = words.get_str("FILE[:LINE[:COLUMN]]").unwrap_or("");
-    print_scopes(rt, &assets, &theme, place)
+    print_scopes(rt, &mut assets, &theme, place)
 }
 
 /// Does what is asked for, if it is one of these.

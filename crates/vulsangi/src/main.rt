@@ -1,7 +1,8 @@
 //! `vulsangi` shows files in colour: in a terminal, as HTML or as LaTeX. `vulsangi --help` tells
 //! its words.
 //!
-//! The status is 0, after wrong words 2, and 1 where a file isn't shown, which a line tells.
+//! The status is 0; after wrong words it is 2, and 1 where a file or the theme isn't shown, which a
+//! line on standard error tells. The other files are shown then all the same.
 #![tactic(auto)]
 
 mod choose;
@@ -51,7 +52,8 @@ fn told_wrong(rt: &impl Eprint, e: &WrongWords<'_>) -> io::Result<ExitCode> {
     Ok(ExitCode::from(2))
 }
 
-/// The status of what was done, and a line on what went wrong. A reader that left is no fault.
+/// The status of what was done, and a line about what went wrong. That nobody reads any more what
+/// is written is no fault.
 fn ended(rt: &impl Eprint, done: Result<bool, AssetsError>) -> io::Result<ExitCode> {
     match done {
         Ok(true) => Ok(ExitCode::SUCCESS),

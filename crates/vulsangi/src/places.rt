@@ -8,7 +8,8 @@ use syntect::explain::why_not_loaded;
 use syntect::highlighting::ThemeSet;
 use syntect::values::Text;
 
-/// The program's folder in that of a variable of the environment, or else in one below home.
+/// A folder named after the program in the one that a variable of the environment names, or else in
+/// this one below the user's home.
 fn place(
     rt: &(impl Env + AllocGlobal),
     variable: &str,
@@ -132,7 +133,8 @@ fn is_same(a: Option<&PathBuf>, b: Option<&PathBuf>) -> bool {
     }
 }
 
-/// What came with the program, then the user's, then the folders asked for: a later name wins.
+/// The grammars and themes that came with the program, then the user's, and then those of the
+/// folders that are asked for: a later one of the same name wins.
 pub fn loaded(
     rt: &(impl AllocGlobal + Eprint + Files + Env),
     folders: Option<&[&str]>,

@@ -9,6 +9,7 @@ use std::path::Path;
 use std::rt::{Env, Files};
 use syntect::assets::{Assets, AssetsBuilder, AssetsError};
 use syntect::highlighting::Theme;
+use vulsangi_check::vulsangi_grammar::nearest::language_called;
 use vulsangi_convert::convert::converted;
 use vulsangi_words::form::{Form, form_of};
 use vulsangi_words::words::Asked;
@@ -162,7 +163,7 @@ fn look_ahead(
     files: &[&str],
 ) -> Result<(), AssetsError> {
     if let Some(name) = asked.language {
-        assets.language(rt.alloc(), name)?;
+        language_called(rt.alloc(), assets, name)?;
     }
     keep_inputs(rt, asked, files)
 }

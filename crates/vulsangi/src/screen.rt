@@ -45,7 +45,8 @@ fn push_tame(out: &mut String, line: &str) -> Result<(), AllocError> {
     Ok(())
 }
 
-/// A text with signs for control characters, so that a terminal does nothing that it says.
+/// A text in which control characters are shown as signs, so that a terminal does nothing that the
+/// text says. Lines may end as on Windows.
 pub fn tamed(alloc: Global, text: String) -> Result<String, AllocError> {
     if !text.as_str().chars().any(acts) {
         return Ok(text);
@@ -106,7 +107,8 @@ fn is_light(theme: &Theme) -> bool {
     u32::from(ground.r) * 3 + u32::from(ground.g) * 6 + u32::from(ground.b) > 1275
 }
 
-/// What sets the ground of a marked line: the theme's for the caret's line, or else a gray.
+/// What sets the colour behind a marked line: that of the theme for the line of the caret, where
+/// the terminal has such colours, or else a gray.
 fn mark_of(alloc: Global, colors: Colors, theme: &Theme) -> Result<String, AllocError> {
     match (colors, theme.settings.line_highlight) {
         (Colors::Bits24, Some(Color { r, g, b, a: 255 })) => {

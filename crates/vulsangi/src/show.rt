@@ -11,6 +11,7 @@ use syntect::Error;
 use syntect::assets::{Assets, AssetsError, Format, PlainLine};
 use syntect::highlighting::Theme;
 use syntect::parsing::SyntaxReference;
+use vulsangi_check::vulsangi_grammar::nearest::{COMMANDS, nearest};
 use vulsangi_words::form::Form;
 use vulsangi_words::words::Asked;
 
@@ -94,7 +95,8 @@ fn document_part(
     Ok((out, plain))
 }
 
-/// The heading of a file, where files have headings: not in a pipe, nor in parts of documents.
+/// The heading of a file, where files have headings: in each form but that of a pipe, which gets
+/// the texts alone, and in parts for another's document.
 fn heading_of(
     alloc: Global,
     job: &Job<'_, '_, '_>,
@@ -134,7 +136,8 @@ fn tell_plain(rt: &impl Eprint, name: &str, e: &AssetsError) -> io::Result<()> {
     eprintln!(rt; "vulsangi: {name}: shown plain; vulsangi check tells what its grammar lacks")
 }
 
-/// A text in its language; or, where a line of it is refused, told, and shown as plain text.
+/// What is shown of a text, and whether it is shown in its language. One of which a line is refused,
+/// since its grammar leads nowhere there, is told, and shown as plain text.
 fn part_or_plain(
     rt: &(impl AllocGlobal + Eprint),
     job: &Job<'_, '_, '_>,
@@ -203,7 +206,8 @@ fn made_of<'a>(
     part_or_plain(rt, job, name_of(job.asked, file), syntax, text)
 }
 
-/// Puts what is shown of a file after what was before, with its heading, and tells a plain line.
+/// Puts what is shown of a file after what was put before, with its heading, and tells of a line that
+/// is plain.
 fn put(
     rt: &(impl AllocGlobal + Print + Eprint),
     sink: &mut Sink,
@@ -242,7 +246,12 @@ pub fn is_closed(e: &AssetsError) -> bool {
 fn tell(rt: &impl Eprint, name: &str, e: &AssetsError) -> io::Result<()> {
     match e {
         AssetsError::NotRead(told) => eprintln!(rt; "vulsangi: {told}"),
-        AssetsError::NotShown(Error::Io(e)) => eprintln!(rt; "vulsangi: {name}: {e}"),
+        AssetsError::NotShown(Error::Io(e)) => match nearest(COMMANDS, name) {
+            Some(word) if e.kind() == ErrorKind::NotFound => {
+                eprintln!(rt; "vulsangi: {name}: {e}; is the command '{word}' meant?")
+            }
+            _ => eprintln!(rt; "vulsangi: {name}: {e}"),
+        },
         e => eprintln!(rt; "vulsangi: {name}: {e}"),
     }
 }

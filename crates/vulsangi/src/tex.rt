@@ -7,8 +7,9 @@ use syntect::highlighting::{Color, Style, Theme};
 use syntect::parsing::SyntaxReference;
 use syntect::util::{LinesWithEndings, as_latex_escaped};
 
-/// What stands before the document. In `Verbatim` only the backslash and braces have a meaning; a
-/// double backslash is made to show one, and a comma keeps its own, since colours have commas.
+/// What stands before the document. In `Verbatim` only the backslash and braces have a meaning, as
+/// in the texts that are made for LaTeX; a double backslash, which is written for one, is made to
+/// show one. A comma keeps its own meaning there, since colours have commas.
 const PREAMBLE: &str = r"\documentclass{article}
 \usepackage[T1]{fontenc}
 \usepackage[utf8]{inputenc}
@@ -60,7 +61,8 @@ fn push_number(out: &mut String, numbered: bool, number: u64) -> Result<(), Allo
     }
 }
 
-/// Appends a line's pieces and a newline. A group of LaTeX doesn't go past its line there.
+/// Appends the pieces of a line without its newline, and a newline. A group of LaTeX doesn't go
+/// past its line there.
 fn push_line(alloc: Global, out: &mut String, pieces: &[(Style, &str)]) -> Result<(), AllocError> {
     let mut shown = Vec::new(alloc);
     for (style, text) in pieces {

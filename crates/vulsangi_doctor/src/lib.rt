@@ -2,6 +2,7 @@
 //! tests, and which scopes and rules gave a character its colour.
 #![tactic(auto)]
 
+pub mod origins;
 pub mod run;
 pub mod scopes;
 pub mod tests;

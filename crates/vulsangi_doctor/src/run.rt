@@ -1,6 +1,8 @@
 //! What the program does for writers of grammars and themes, with what it prints.
-use crate::scopes::{Reading, explain, told};
+use crate::origins::marked;
+use crate::scopes::{Reading, add_scopes, explain, told};
 use crate::tests::{header_of, run, stack_at};
+use std::alloc::Global;
 use std::fs;
 use std::path::Path;
 use std::rt::Files;
@@ -8,7 +10,7 @@ use syntect::Error;
 use syntect::assets::{Assets, AssetsError};
 use syntect::highlighting::Theme;
 use syntect::parsing::{
-    FindWithinError, GhostCount, SyntaxReference, find_syntax_by_first_line_within,
+    FindWithinError, GhostCount, ScopeStack, SyntaxReference, find_syntax_by_first_line_within,
 };
 use syntect::util::LinesWithEndings;
 
@@ -133,7 +135,10 @@ fn print_all(
     let mut number = 0u64;
     for line in LinesWithEndings::from(text) {
         number = number.saturating_add(1);
-        for run in reading.line(alloc, assets, line)?.as_slice() {
+        for run in reading
+            .line(alloc, (&assets.set, &assets.limits), line)?
+            .as_slice()
+        {
             let scopes = told(alloc, &run.scopes, &assets.repository)?;
             let before = line.get(..run.from).unwrap_or("").chars().count();
             let inside = line.get(run.from..run.to).unwrap_or("").chars().count();
@@ -144,8 +149,9 @@ fn print_all(
     Ok(())
 }
 
-/// The syntax of a file: by its name, or its first line, or else plain text.
-fn syntax_of_file<'a>(
+/// The syntax of a text: by the name of its file, or by its first line within the limits, or else
+/// plain text.
+pub fn syntax_of_file<'a>(
     rt: &impl AllocGlobal,
     assets: &'a Assets,
     path: &str,
@@ -167,29 +173,59 @@ fn syntax_of_file<'a>(
     }
 }
 
-/// Prints the scopes of a text, or, of the place that is named as FILE:LINE:COLUMN, the scopes, the
-/// style and the rules of the theme that gave it. Answers whether there is such a place.
+/// What is told of a place of a text, by its line and its column from 1; none where nothing stands.
+fn told_at(
+    alloc: Global,
+    assets: &mut Assets,
+    theme: &Theme,
+    syntax: &SyntaxReference,
+    text: &str,
+    (line, column): (u64, usize),
+) -> Result<Option<String>, AssetsError> {
+    let column = column.saturating_sub(1);
+    let by = (&assets.set, &assets.limits);
+    let Some(stack) = stack_at(alloc, by, syntax, text, line, column)? else {
+        return Ok(None);
+    };
+    let (set, marks) = marked(alloc, assets)?;
+    let syntax = set.syntaxes().get(syntax.index).unwrap_or(syntax);
+    let marked = match stack_at(alloc, (&set, &assets.limits), syntax, text, line, column)? {
+        Some(marked) => marked,
+        None => ScopeStack::new(alloc),
+    };
+    let mut out = String::new(alloc);
+    add_scopes(&stack, &marked, &marks, &assets.repository, &mut out)?;
+    explain(alloc, &stack, theme, &assets.repository, &mut out)?;
+    Ok(Some(out))
+}
+
+/// Prints the scopes of a text, or, of the place that is named as FILE:LINE:COLUMN, the scopes with
+/// the entries of grammars that gave them, the style, and the rules of the theme that gave it.
+/// Answers whether there is such a place.
 pub fn print_scopes(
     rt: &(impl AllocGlobal + Files + Print + Eprint),
-    assets: &Assets,
+    assets: &mut Assets,
     theme: &Theme,
     place: &str,
 ) -> Result<bool, AssetsError> {
-    let alloc = rt.alloc();
     let (path, place) = place_in(place);
     let text = text_in(rt, path)?;
-    let syntax = syntax_of_file(rt, assets, path, text.as_str())?;
+    let syntax = syntax_of_file(rt, assets, path, text.as_str())?.clone()?;
     let Some((line, column)) = place else {
-        print_all(rt, assets, syntax, text.as_str())?;
+        print_all(rt, assets, &syntax, text.as_str())?;
         return Ok(true);
     };
-    let before = column.saturating_sub(1);
-    let Some(stack) = stack_at(alloc, assets, syntax, text.as_str(), line, before)? else {
-        eprintln!(rt; "vulsangi: {path}:{line}:{column}: nothing stands there")?;
-        return Ok(false);
-    };
-    let mut out = String::new(alloc);
-    explain(alloc, &stack, theme, &assets.repository, &mut out)?;
-    print!(rt; "{out}")?;
-    Ok(true)
+    let told = told_at(
+        rt.alloc(),
+        assets,
+        theme,
+        &syntax,
+        text.as_str(),
+        (line, column),
+    )?;
+    match &told {
+        Some(told) => print!(rt; "{told}")?,
+        None => eprintln!(rt; "vulsangi: {path}:{line}:{column}: nothing stands there")?,
+    }
+    Ok(told.is_some())
 }

@@ -1,10 +1,11 @@
 //! The scopes of a text, stretch by stretch, and the rules of a theme that fit them.
+use crate::origins::Marks;
 use std::alloc::{AllocError, Global};
 use syntect::Error;
-use syntect::assets::Assets;
 use syntect::highlighting::{Color, FontStyle, Highlighter, Style, Theme, ThemeItem};
 use syntect::parsing::{
-    ParseState, ReadWithinError, ScopeRepository, ScopeStack, ScopeStackOp, SyntaxReference,
+    Limits, ParseState, ReadWithinError, ScopeRepository, ScopeStack, ScopeStackOp,
+    SyntaxReference, SyntaxSet,
 };
 use syntect::values::Seq;
 
@@ -44,6 +45,9 @@ fn runs_of(
     Ok(runs)
 }
 
+/// What a text is read by: the grammars, and what a line may take.
+pub type By<'a> = (&'a SyntaxSet, &'a Limits);
+
 /// A text that is read for its scopes, line after line.
 #[derive(Drop)]
 pub struct Reading {
@@ -61,8 +65,8 @@ impl Reading {
     }
 
     /// Reads over the next line. One that reaches a limit is passed over, as if it weren't there.
-    pub fn pass(&mut self, alloc: Global, assets: &Assets, line: &str) -> Result<(), Error> {
-        let (set, limits) = (&assets.set, &assets.limits);
+    pub fn pass(&mut self, alloc: Global, by: By<'_>, line: &str) -> Result<(), Error> {
+        let (set, limits) = by;
         match self.state.parse_line_within(alloc, line, set, limits) {
             Ok(operations) => {
                 for (_, operation) in operations.as_slice() {
@@ -77,8 +81,8 @@ impl Reading {
 
     /// The stretches of the next line. One that reaches a limit has none, and the lines after it
     /// are read as if it weren't there.
-    pub fn line(&mut self, alloc: Global, assets: &Assets, line: &str) -> Result<Vec<Run>, Error> {
-        let (set, limits) = (&assets.set, &assets.limits);
+    pub fn line(&mut self, alloc: Global, by: By<'_>, line: &str) -> Result<Vec<Run>, Error> {
+        let (set, limits) = by;
         match self.state.parse_line_within(alloc, line, set, limits) {
             Ok(operations) => runs_of(alloc, line, operations.as_slice(), &mut self.stack),
             Err(ReadWithinError::LimitReached(_)) => Ok(Vec::new(alloc)),
@@ -224,8 +228,29 @@ fn add_rule(
     Ok(())
 }
 
-/// Adds the scopes of a stack, the innermost last, its style, and the rules of the theme that gave
-/// its colour and its font.
+/// Adds the scopes of a stack, the innermost last, each with the entry of a grammar that gave it, as
+/// a stack of marks in their places tells.
+pub fn add_scopes(
+    stack: &ScopeStack,
+    marked: &ScopeStack,
+    marks: &Marks,
+    repository: &ScopeRepository,
+    out: &mut String,
+) -> Result<(), Error> {
+    for (place, scope) in stack.as_slice().iter().enumerate() {
+        out.push_str("scope   ")?;
+        out.push_str(scope.build_string(repository)?.as_str())?;
+        out.push_str("\n")?;
+        if let Some(entry) = marks.entry_at(marked.as_slice(), place) {
+            out.push_str("        ")?;
+            out.push_str(entry)?;
+            out.push_str("\n")?;
+        }
+    }
+    Ok(())
+}
+
+/// Adds the style of a stack, and the rules of the theme that gave its colour and its font.
 pub fn explain(
     alloc: Global,
     stack: &ScopeStack,
@@ -233,11 +258,6 @@ pub fn explain(
     repository: &ScopeRepository,
     out: &mut String,
 ) -> Result<(), Error> {
-    for scope in stack.as_slice() {
-        out.push_str("scope   ")?;
-        out.push_str(scope.build_string(repository)?.as_str())?;
-        out.push_str("\n")?;
-    }
     let style = Highlighter::new(alloc, theme)?.style_for_stack(stack.as_slice())?;
     let (r, g, b) = (style.foreground.r, style.foreground.g, style.foreground.b);
     let colour = format!(in alloc; "colour  #{r:02x}{g:02x}{b:02x}\n")?;

@@ -1,5 +1,5 @@
 //! Tests of grammars in Sublime Text's form: below a line comments say which scopes it has.
-use crate::scopes::{Reading, Run, told};
+use crate::scopes::{By, Reading, Run, told};
 use std::alloc::Global;
 use syntect::Error;
 use syntect::assets::{Assets, AssetsError};
@@ -156,7 +156,7 @@ pub fn run(
     let mut number = 0u64;
     for line in LinesWithEndings::from(text) {
         number = number.saturating_add(1);
-        let runs = reading.line(alloc, assets, line)?;
+        let runs = reading.line(alloc, (&assets.set, &assets.limits), line)?;
         let said = if number == 1 {
             None
         } else {
@@ -185,7 +185,7 @@ pub fn run(
 /// The scopes over a character of a text: by its line, from 1, and its column, from 0.
 pub fn stack_at(
     alloc: Global,
-    assets: &Assets,
+    by: By<'_>,
     syntax: &SyntaxReference,
     text: &str,
     line: u64,
@@ -196,10 +196,10 @@ pub fn stack_at(
     for text in LinesWithEndings::from(text) {
         number = number.saturating_add(1);
         if number < line {
-            reading.pass(alloc, assets, text)?;
+            reading.pass(alloc, by, text)?;
             continue;
         }
-        let runs = reading.line(alloc, assets, text)?;
+        let runs = reading.line(alloc, by, text)?;
         let place = place_of(text, column).unwrap_or(text.len());
         return match scopes_at(runs.as_slice(), place) {
             Some(stack) => Ok(Some(stack.clone()?)),

@@ -65,7 +65,7 @@ fn is_known(known: &[String], scope: &str) -> bool {
 }
 
 /// Adds the scopes of a text that are outside the convention.
-pub fn check_scopes(
+fn check_scopes(
     alloc: Global,
     lines: &Lines<'_>,
     item: &Item<'_>,

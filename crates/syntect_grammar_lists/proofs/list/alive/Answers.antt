@@ -1,15 +1,8 @@
-use Rattle.std.proofs.Common.{◌+◌, ◌*◌, ◌∙◌, ap, get_or}
 use Rattle.syntect_grammar_lists.specs.Packed.{unpacked}
-use Rattle.syntect_grammar_lists.proofs.RowLaws.{tells_off_edges, tells_within}
+use Rattle.syntect_grammar_lists.proofs.RowLaws.{tells_off_edges}
 use Rattle.syntect_grammar_lists.proofs.list.alive.Goals as goal
 
 pub returns-then-outlook : goal.returns-then-outlook
 returns-then-outlook c =
-    tells_off_edges (unpacked c.args.words c.args.rows.now) c.args.words c.args.outlook c.args.word c.word_in-here.result c.word_in-behind.result c.requires.here c.requires.behind
-    c.word_in-here.ensures (c.word_in-behind.ensures ∙ ap (λ q. get_or (unpacked c.args.words c.args.rows.now) (q * c.args.words + c.args.word) 18446744073709551615) c.behind_row.ensures.value)
-    c.word_in.result c.word_in.ensures c.if-outlook.true
-
-pub returns-else-outlook : goal.returns-else-outlook
-returns-else-outlook c =
-    tells_within (unpacked c.args.words c.args.rows.now) c.args.words c.args.outlook c.args.word c.word_in-here.result c.word_in-behind.result c.requires.here c.requires.behind
-    c.word_in-here.ensures (c.word_in-behind.ensures ∙ ap (λ q. get_or (unpacked c.args.words c.args.rows.now) (q * c.args.words + c.args.word) 18446744073709551615) c.behind_row.ensures.value)
+    tells_off_edges (unpacked c.args.words c.args.rows.now) c.args.words c.args.outlook c.args.word c.alive_in_line-alive.result c.word_in.result
+    c.alive_in_line-alive.ensures c.word_in.ensures c.if-outlook.true

@@ -1,5 +1,5 @@
 use Rattle.std.proofs.Common.{◌≡◌, suc, ◌≤◌, ◌+◌, ◌*◌, ℕ, ◌-◌, Bool, true, false, refl, sym, ap, subst, ◌∙◌, arith, get_or, inl, inr, length}
-use Rattle.std.specs.Prelude.{if◌then◌else◌, ◌||◌, is_some}
+use Rattle.std.specs.Prelude.{if◌then◌else◌, ◌||◌, is_some, Option, option_map}
 use Rattle.syntect_pattern_linear.specs.syntect_pattern.Sets.{range}
 use Rattle.syntect_pattern_linear.specs.syntect_pattern.Trees.{Tree, nothing, seq, alt, ahead}
 use Rattle.syntect_pattern_linear.specs.syntect_pattern.Matches.{Groups}
@@ -16,11 +16,11 @@ use Rattle.syntect_pattern_plan.proofs.BuildLaws.{ok-both}
 use Rattle.syntect_pattern_linear.proofs.syntect_count_proofs.MeterLaws.{advances-none, advances-on}
 use Rattle.syntect_pattern_plan.specs.declared.facts.Facts.{Facts}
 use Rattle.syntect_pattern_linear.proofs.GroundLaws.{first-is, second-is, tree-more, item-is}
-use Rattle.syntect_pattern_linear.proofs.WalkLaws.{walks-nothing, walks-anchor, walks-behind, walks-bare_ahead, walks-char, alt-first, alt-second, group-walks, atomic-walks, ahead-walks, CanWalk, filled-on, follow, loop-is}
+use Rattle.syntect_pattern_linear.proofs.WalkLaws.{walks-nothing, walks-anchor, walks-behind, walks-bare_ahead, walks-char, alt-first, alt-second, group-walks, atomic-walks, ahead-walks, CanWalk, look_left, filled-on, follow, loop-is}
 use Rattle.syntect_pattern_linear.proofs.SequenceLaws.{seq-first, seq-second}
-use Rattle.syntect_pattern_linear.proofs.LoopLaws.{turn-leaves, turn-first, turn-stays, turn-goes, turn-tree}
+use Rattle.syntect_pattern_linear.proofs.LoopLaws.{turn-leaves, turn-first, turn-stays, turn-goes, turn-tree, turn-looks}
 use Rattle.syntect_pattern_linear.specs.Steps.{stay_cost, read_cost, walk_cost, look_cost}
-use Rattle.syntect_pattern_linear.proofs.CostLaws.{walks-on, costs-is, costs-of, seq-cost, left-cost, right-cost, look-costs, turn-cost, last-cost, seq-tree, alt-trees, ahead-tree, loop-calm}
+use Rattle.syntect_pattern_linear.proofs.CostLaws.{walks-on, costs-is, costs-of, seq-cost, left-cost, right-cost, look-costs, turn-cost, last-cost, no-turn, seq-tree, alt-trees, ahead-tree}
 use Rattle.syntect_pattern_linear.proofs.walk.+walk.Goals as goal
 
 pub walk_node-returns-in-Nothing-clause-walks : goal.walk_node-returns-in-Nothing-clause-walks
@@ -285,7 +285,9 @@ walk_turns-turns-preserved t c =
     let after = c.follows-turn.ensures ∙ ap (λ (j : ℕ). (cell_at x.plan.now.cells j).next) first in
     let n = turn-goes x c.turns.turn c.turns.at g i.filled.ground c.args.greedy c.turns.least c.turns.most i.goes.body i.goes.is_loop i.goes.found (test ∙ c.turns-test.true) c.in_ok-end.end c.walk.new.groups.items (subst (λ (j : ℕ). Walks x j c.turns.at g c.in_ok-end.end c.walk.new.groups.items) first c.in_ok-end.ensures.walks) c.if-end-at.false c.follows-turn.result after in
     let u = costs-of x c.parts_at-first.result.first c.turns.at c.turns.meter.made c.in_ok-end.end c.walk.new.meter.made i.goes.body (ap (λ (j : ℕ). item_tree (trees_of x.program.now) (cell_at x.plan.now.cells j).item) first ∙ turn-tree x c.turns.turn c.turns.at g i.filled.ground c.args.greedy c.turns.least c.turns.most i.goes.body i.goes.is_loop i.goes.found (test ∙ c.turns-test.true)) c.in_ok-end.ensures.steps in
-    let v = subst (λ (l : ℕ). c.walk.new.meter.made ≤ c.turns.meter.made + (stay_cost i.goes.body + read_cost i.goes.body * (c.in_ok-end.end - c.turns.at) + l * (suc (length x.text.now)))) i.goes.calm u in
+    let l : ℕ = look_cost i.goes.body * suc (length x.text.now) in
+    let fewer : Option ℕ = option_map (λ j. j - 1) c.turns.most in
+    let left = turn-looks x c.turns.turn c.turns.at g i.filled.ground c.args.greedy c.turns.least c.turns.most i.goes.body i.goes.is_loop i.goes.found (test ∙ c.turns-test.true) (suc (length x.text.now)) in
     record {
       filled = filled-on x c.args.marks.now c.turns.at c.in_ok-end.end i.filled (omega (arith, n.later)) n.filled_there;
       advances = advances-on c.args.meter.now c.turns.meter c.walk.new.meter i.advances c.in_ok-end.ensures.advances;
@@ -298,11 +300,11 @@ walk_turns-turns-preserved t c =
         later = omega (arith, i.goes.later, n.later);
         stays = i.goes.stays;
         reads = i.goes.reads;
-        calm = i.goes.calm;
+        looks = i.goes.looks;
         paid =
             let far : c.in_ok-end.end - c.args.place ≡ (c.turns.at - c.args.place) + (c.in_ok-end.end - c.turns.at) = omega (arith, i.goes.later, n.later) in
-            let p = turn-cost (stay_cost i.goes.body) (read_cost i.goes.body) (suc (length x.text.now)) (c.turns.at - c.args.place) (c.in_ok-end.end - c.turns.at) c.args.meter.now.made c.turns.meter.made c.walk.new.meter.made (omega (arith, n.later)) i.goes.paid v in
-            rw far p;
+            let p = turn-cost (stay_cost i.goes.body) (read_cost i.goes.body) l (c.turns.at - c.args.place) (c.in_ok-end.end - c.turns.at) (look_left c.turns.most l) (look_left fewer l) c.args.meter.now.made c.turns.meter.made c.walk.new.meter.made (omega (arith, n.later)) left i.goes.paid u in
+            rw (far, c.one_less-most.ensures) p;
       };
     }
 
@@ -407,13 +409,15 @@ walk_turns-returns-then-end-at-clause-steps t c =
     let test = sym c.takes_turn.ensures in
     let first = first-is _ _ c.parts_at-first.result c.turns.turn c.parts_at-first.ensures c.as_slice.ensures in
     let u = costs-of x c.parts_at-first.result.first c.turns.at c.turns.meter.made c.in_ok-end.end c.walk.new.meter.made i.goes.body (ap (λ (j : ℕ). item_tree (trees_of x.program.now) (cell_at x.plan.now.cells j).item) first ∙ turn-tree x c.turns.turn c.turns.at g i.filled.ground c.args.greedy c.turns.least c.turns.most i.goes.body i.goes.is_loop i.goes.found (test ∙ c.turns-test.true)) c.in_ok-end.ensures.steps in
-    let v = subst (λ (l : ℕ). c.walk.new.meter.made ≤ c.turns.meter.made + (stay_cost i.goes.body + read_cost i.goes.body * (c.in_ok-end.end - c.turns.at) + l * (suc (length x.text.now)))) i.goes.calm u in
+    let l : ℕ = look_cost i.goes.body * suc (length x.text.now) in
+    let fewer : Option ℕ = option_map (λ j. j - 1) c.turns.most in
+    let left = turn-looks x c.turns.turn c.turns.at g i.filled.ground c.args.greedy c.turns.least c.turns.most i.goes.body i.goes.is_loop i.goes.found (test ∙ c.turns-test.true) (suc (length x.text.now)) in
     let none : c.in_ok-end.end - c.turns.at ≡ 0 = omega (arith, c.if-end-at.true) in
-    let w = subst (λ (y : ℕ). c.walk.new.meter.made ≤ c.turns.meter.made + (stay_cost i.goes.body + read_cost i.goes.body * y + 0 * (suc (length x.text.now)))) none v in
+    let w = subst (λ (y : ℕ). c.walk.new.meter.made ≤ c.turns.meter.made + (stay_cost i.goes.body + read_cost i.goes.body * y + l)) none u in
     let far : c.turns.at - c.args.place ≡ c.in_ok-end.end - c.args.place = ap (λ (e : ℕ). e - c.args.place) (sym c.if-end-at.true) in
-    let paid = subst (λ (y : ℕ). c.turns.meter.made ≤ c.args.meter.now.made + (stay_cost i.goes.body + read_cost i.goes.body) * y) far i.goes.paid in
-    let cost = last-cost (stay_cost i.goes.body) (read_cost i.goes.body) (look_cost (item_tree (trees_of x.program.now) (cell_at x.plan.now.cells c.args.cell).item)) (suc (length x.text.now)) (c.in_ok-end.end - c.args.place) c.args.meter.now.made c.turns.meter.made c.walk.new.meter.made paid w in
-    record { steps = rw (i.goes.stays, i.goes.reads) cost }
+    let paid = subst (λ (y : ℕ). c.turns.meter.made + look_left c.turns.most l ≤ c.args.meter.now.made + (stay_cost i.goes.body + read_cost i.goes.body) * y + l) far i.goes.paid in
+    let cost = last-cost (stay_cost i.goes.body) (read_cost i.goes.body) l (c.in_ok-end.end - c.args.place) (look_left c.turns.most l) (look_left fewer l) c.args.meter.now.made c.turns.meter.made c.walk.new.meter.made left paid w in
+    record { steps = rw (i.goes.stays, i.goes.reads, i.goes.looks) cost }
 
 pub walk_turns-turns-init : goal.walk_turns-turns-init
 walk_turns-turns-init t c =
@@ -430,8 +434,8 @@ walk_turns-turns-init t c =
         later = omega arith;
         stays = ap stay_cost c.requires.turns.at.tree;
         reads = ap read_cost c.requires.turns.at.tree;
-        calm = loop-calm x c.args.cell c.args.place c.requires.filled.ground c.args.greedy c.args.least c.args.most c.requires.turns.body c.requires.turns.at;
-        paid = omega arith;
+        looks = ap look_cost c.requires.turns.at.tree;
+        paid = no-turn c.args.most (look_cost c.requires.turns.body * suc (length x.text.now)) c.args.meter.now.made ((stay_cost c.requires.turns.body + read_cost c.requires.turns.body) * (c.args.place - c.args.place));
       };
     }
 

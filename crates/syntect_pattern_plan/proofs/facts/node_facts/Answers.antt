@@ -16,10 +16,10 @@ returns-in-Text c = λ ts facts.
 
 pub returns-in-Repeat : goal.returns-in-Repeat
 returns-in-Repeat c = λ ts facts.
-    c.in_loop.ensures c.in-Repeat.greedy c.in-Repeat.most (get_or ts c.in-Repeat.body nothing) (c.facts_at-in-Repeat.ensures ∙ facts c.in-Repeat.body)
+    c.in_loop.ensures c.in-Repeat.greedy (get_or ts c.in-Repeat.body nothing) (c.facts_at-in-Repeat.ensures ∙ facts c.in-Repeat.body)
     ∙ sym (ap (λ n. facts_of (node_tree ts n)) c.in-Repeat.is)
 
 pub returns-in-Behind : goal.returns-in-Behind
 returns-in-Behind c = λ ts facts.
-    c.in_lookbehind.ensures c.in-Behind.negated (get_or ts c.in-Behind.body nothing) (c.facts_at-in-Behind.ensures ∙ facts c.in-Behind.body)
+    c.in_lookbehind.ensures (get_or ts c.in-Behind.body nothing) (c.facts_at-in-Behind.ensures ∙ facts c.in-Behind.body)
     ∙ sym (ap (λ n. facts_of (node_tree ts n)) c.in-Behind.is)

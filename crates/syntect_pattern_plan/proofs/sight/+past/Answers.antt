@@ -8,7 +8,7 @@ use Rattle.syntect_pattern_plan.specs.Onward.{plain}
 use Rattle.syntect_pattern_plan.specs.Cells.{tree_size}
 use Rattle.syntect_pattern_plan.specs.Sights.{IsImage, flag_of, is_single}
 use Rattle.syntect_pattern_plan.proofs.TreeLaws.{and_right}
-use Rattle.syntect_pattern_plan.proofs.SightLaws.{image-of, image-seq, image-alt, image-bounds}
+use Rattle.syntect_pattern_plan.proofs.SightLaws.{image-of, image-seq, image-alt, image-group, image-bounds}
 use Rattle.syntect_pattern_plan.proofs.sight.+past.Goals as goal
 
 pub past-requires-in-Some-Sequence : goal.past-requires-in-Some-Sequence
@@ -69,6 +69,18 @@ returns-in_ok-other-in-Some-Alternation t c =
     ∙ ap (λ (l : List Bool). flag_of l j || flag_of c.as_slice-in-Some-Alternation-2.result.now j) c.as_slice-in-Some-Alternation.ensures.value
     ∙ ap (λ (l : List Bool). flag_of one j || flag_of l j) c.as_slice-in-Some-Alternation-2.ensures.value)))
     c.either.ensures
+
+pub returns-in-Some-Group : goal.returns-in-Some-Group
+returns-in-Some-Group t c =
+    let s = c.args.text.now in
+    let ts = trees_of c.args.program.now in
+    let a : Tree = get_or ts c.in-Some-Group.body nothing in
+    let tree = c.in-Some-Group.ensures.is ∙ ap (node_tree ts) c.in-Some-Group.field-0-is in
+    if_ok_map c.past-in-Some-Group.result
+    (λ row. IsImage s a c.args.before.now row.items)
+    (λ row. IsImage s (get_or ts c.args.node nothing) c.args.before.now row.items)
+    (λ row h. image-of s _ _ c.args.before.now row.items tree (image-group s c.requires.1.1.0 _ a c.args.before.now row.items h))
+    c.past-in-Some-Group.ensures
 
 pub returns-in-None : goal.returns-in-None
 returns-in-None t c =

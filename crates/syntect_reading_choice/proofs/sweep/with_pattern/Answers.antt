@@ -13,7 +13,7 @@ use Rattle.syntect_reading_choice.proofs.sweep.with_pattern.Goals as goal
 
 -- a pattern that stands there
 flat_of : Origin → Flat
-flat_of o = record { begins = nothing; words = nothing; blanks = nothing; at_edges = false; context = o.context; index = o.index; has_captures = false }
+flat_of o = record { begins = nothing; words = nothing; blanks = nothing; at_edges = false; at_lines = false; context = o.context; index = o.index; has_captures = false }
 
 -- the pattern at an index of a list is the one that was found where that stands
 found_at : (set : SyntaxSet) (here flats : List Flat) (index : ℕ) (origin : Origin) (found : Option MatchPattern) → here ≡ flats → ((d : Flat) → origin ≡ origin_of (get_or here index d))

@@ -22,10 +22,10 @@ use denote.Steps.{heard, nothing}
 use denote.Triple.Spec.{triple_of}
 use denote.Triple.Table.{entered}
 use denote.Triple.Walked.{says, Stays, stay_dropped, walk_of, ends_at, Goes-dropped, walk_Meets}
-use Rattle.std.specs.Prelude.{◌≡◌, Option, is_some, true}
+use Rattle.std.specs.Prelude.{◌≡◌, Option, Some, is_some, true}
 use Rattle.syntect_c.specs.declared.set.SetContent.{SetContent}
 use Rattle.syntect_c.proofs.Held.{the_one}
-use Rattle.std_alloc.proofs.BoxSteps.Form.{D, word, box_typed}
+use Rattle.std_alloc.proofs.BoxSteps.Form.{D, B, word, box_typed}
 use Rattle.std_alloc.proofs.BoxSteps.Steps.{box_out, box_in}
 use Rattle.syntect_c.proofs.AsBox.{E, FromHandle as From}
 use Rattle.syntect_c.specs.contracts.handle.Handle as Handle

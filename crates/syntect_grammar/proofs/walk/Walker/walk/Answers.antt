@@ -47,7 +47,7 @@ entries-preserved-in-Continue-branch-3 c = record {
       c.if-top-entries.false (sym c.index-entries-top.is ∙ c.in-Match.is) c.entries.self.flats.items c.push-in-Match.new.self.items c.in_ok-push-in-Match.ensures.items c.entries.invariant.count;
   tells = tells_more (set_of c.args.syntaxes.now) c.flat_of.result c.in-Some.top.id c.in-Some.top.next c.in-Match.m c.index-entries-top.result c.entries-entries.result.now c.entries-entries.ensures c.flat_of.ensures.context c.flat_of.ensures.index
       c.if-top-entries.false (sym c.index-entries-top.is ∙ c.in-Match.is) c.entries.self.flats.items c.push-in-Match.new.self.items c.in_ok-push-in-Match.ensures.items
-      c.flat_of.ensures.captures c.flat_of.ensures.begins c.flat_of.ensures.words c.flat_of.ensures.blanks c.flat_of.ensures.edges c.flat_of.ensures.untold c.entries.invariant.tells;
+      c.flat_of.ensures.captures c.flat_of.ensures.begins c.flat_of.ensures.words c.flat_of.ensures.blanks c.flat_of.ensures.edges c.flat_of.ensures.lines c.flat_of.ensures.untold c.entries.invariant.tells;
   steps = λ e. (c.spend.ensures.uncounted (c.entries.invariant.steps e)).1;
 }
 

@@ -1,0 +1,25 @@
+-- The handle of a document and its parts own what a box at the same types owns.
+use mir.Syntax.{impl, tnil, dnil}
+use mathlib.Core.List.{[]}
+use denote.Signature.{Slot, plain}
+use Rattle.std_alloc.proofs.BoxSteps.Form.{Bx}
+use Rattle.std_heap.specs.contracts.Global as Heap
+use Rattle.std_heap.specs.contracts.GlobalAllocator.TheImpl.{ghosts, dict}
+use Rattle.std_heap.proofs.Global.TheLaws as heap
+use Rattle.syntect_c.specs.contracts.document.DocContent as Content
+use Rattle.syntect_c.proofs.document.DocContent.TheLaws as content
+use Rattle.syntect_c.specs.contracts.parts.Parts as Parts
+use Rattle.syntect_c.specs.contracts.doc_handle.DocHandle as DocHandle
+
+-- a box of the content
+abbrev pub E : Bx
+E = record { row = Content.the_row; laws = content.the_row_laws; al = record { row = Heap.the_row; laws = heap.the_row_laws; g = ghosts; d = dict; drops = impl [] tnil dnil } }
+
+abbrev pub FromParts : Slot 0
+FromParts = plain (λ _. Parts.the_row Content.the_row Heap.the_row ghosts)
+
+abbrev pub FromHandle : Slot 0
+FromHandle = plain (λ _. DocHandle.the_row)
+
+abbrev pub FromGlobal : Slot 0
+FromGlobal = plain (λ _. Heap.the_row)
