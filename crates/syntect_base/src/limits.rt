@@ -18,7 +18,7 @@ pub struct Limits {
     /// How many bytes a grammar's text has at most.
     pub text: usize,
     /// How many bytes a pattern has at most with its variables expanded, each use of a variable
-    /// that is come to for that counted as a byte more.
+    /// that is come to for that counted as 64 bytes more.
     pub pattern: usize,
     /// How many bytes all patterns of a grammar have together at most, counted as those of one
     /// pattern are.

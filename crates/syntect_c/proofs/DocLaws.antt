@@ -1,6 +1,6 @@
 -- Where a document stands.
 use Rattle.std.proofs.Common.{◌≡◌, ◌∙◌, ℕ, IfOk, List, Option, Some, ap, sym, refl, subst}
-use Rattle.std.specs.Prelude.{Result, Ok, Err, unwrap_or}
+use Rattle.std.specs.Prelude.{None, Result, Ok, Err, unwrap_or}
 use Rattle.std.specs.Borrow.{Bor}
 use Rattle.syntect_assets.specs.Assets.{theme_named}
 use Rattle.syntect_assets.specs.declared.assets.Assets.{Assets}
@@ -9,8 +9,8 @@ use Rattle.syntect_assets.specs.syntect_parsing.States.{standing}
 use Rattle.syntect_assets.specs.syntect_theme.declared.theme.Theme.{Theme}
 use Rattle.syntect_easy.specs.Leads.{IsPast, Past, reader_of, styles_of}
 use Rattle.syntect_easy.specs.declared.easy.HighlightLines.{HighlightLines}
-use Rattle.syntect_c.specs.DocCalls.{BeginsHeld, BeginsNew, BeginsOf, BeginsWith, ReadsHeld, StandsHeld}
-use Rattle.syntect_c.specs.Documents.{AnswersLine, BeginsIn, ReadsLine, StandsAfter}
+use Rattle.syntect_c.specs.DocCalls.{BeginsHeld, BeginsNew, BeginsOf, BeginsWith, NamesStay, ReadsHeld, StandsHeld}
+use Rattle.syntect_c.specs.Documents.{AnswersLine, BeginsIn, ReadsLine, SameNames, StandsAfter}
 use Rattle.syntect_c.specs.declared.document.DocContent.{DocContent}
 use Rattle.syntect_c.specs.declared.document.States.{States}
 use Rattle.syntect_c.specs.declared.set.SetContent.{SetContent}
@@ -114,3 +114,17 @@ pub if_made : {X E : Type 0} (P Q : X → Type 0) (answer : Result X E) → ((x 
     → IfOk answer P → IfOk answer Q
 if_made P Q (Ok x) turns holds = turns x holds
 if_made P Q (Err e) turns holds = holds
+
+-- what is held keeps its names where a document does
+pub names_held : (before after : Option DocContent) (old new : DocContent) → before ≡ Some old
+    → after ≡ Some new → SameNames old new → NamesStay before after
+names_held before after old new before_is after_is same =
+    subst (λ (o : Option DocContent). NamesStay o after) (sym before_is)
+    (subst (λ (o : Option DocContent). NamesStay (Some old) o) (sym after_is) same)
+
+-- nothing stays nothing
+pub names_none : (before after : Option DocContent) → before ≡ None → after ≡ None
+    → NamesStay before after
+names_none before after before_is after_is =
+    subst (λ (o : Option DocContent). NamesStay o after) (sym before_is)
+    (subst (λ (o : Option DocContent). NamesStay None o) (sym after_is) tt)

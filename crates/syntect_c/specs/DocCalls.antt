@@ -2,7 +2,7 @@
 use Rattle.std.specs.Prelude.{◌≡◌, ℕ, List, [], Option, Some, None, string_bytes}
 use Rattle.syntect_assets.specs.declared.assets.Assets.{Assets}
 use Rattle.syntect_easy.specs.Leads.{Past}
-use Rattle.syntect_c.specs.Documents.{BeginsIn, ReadsLine, StandsAfter}
+use Rattle.syntect_c.specs.Documents.{BeginsIn, ReadsLine, SameNames, StandsAfter}
 use Rattle.syntect_c.specs.declared.document.DocContent.{DocContent}
 use Rattle.syntect_c.specs.declared.set.SetContent.{SetContent}
 use Rattle.syntect_c.specs.declared.set.Stage.{Stage}
@@ -16,6 +16,12 @@ spans_in None = []
 abbrev pub doc_fault_in : Option DocContent → List ℕ
 doc_fault_in (Some document) = string_bytes document.fault
 doc_fault_in None = []
+
+-- a handle holds a document after a call exactly where it held one, with the same names
+abbrev pub NamesStay : Option DocContent → Option DocContent → Type 0
+NamesStay (Some old) (Some new) = SameNames old new
+NamesStay None None = Unit {0}
+NamesStay old new = ⊥
 
 -- a document that is held stands after a past of the set that is held
 pub record StandsHeld (past : Past) (set : Option SetContent) (doc : Option DocContent)

@@ -20,6 +20,10 @@ use Rattle.syntect_c.specs.declared.set.SetContent.{SetContent}
 use Rattle.syntect_c.specs.declared.set.Stage.{Stage}
 use Rattle.syntect_c.specs.declared.span.Span.{Span}
 
+-- the document has the language and the theme that it had
+abbrev pub SameNames : DocContent → DocContent → Type 0
+SameNames old new = (new.language ≡ old.language) × (new.theme ≡ old.theme)
+
 -- these are the states that a highlighter holds
 pub record AreStatesOf (h : HighlightLines) (states : States) : Type 0 where
   pub styles : states.styles ≡ styles_of h
@@ -36,13 +40,15 @@ pub record Begins (assets : Assets) (language theme : List ℕ) (states : States
   pub leads : (set : SyntaxSet) → Leads set style syntax [] [] h
   pub holds : AreStatesOf h states
 
--- a document stands there, of a set whose grammars are linked
+-- a document stands there, of a set whose grammars are linked, and has these names
 pub record BeginsIn (set : SetContent) (language theme : List ℕ) (doc : DocContent) : Type 0 where
   pub assets : Assets
   pub linked : set.stage ≡ Stage.Linked assets
   pub states : States
   pub states_is : doc.states ≡ Some states
   pub begins : Begins assets language theme states
+  pub language_kept : doc.language ≡ language
+  pub theme_kept : doc.theme ≡ theme
 
 -- A document stands after a past: its states are those of a highlighter with that past, whatever is
 -- counted, and its theme is the past's.

@@ -5,8 +5,8 @@
 //! it back.
 ghost use Rattle.std.specs.Prelude.{◌≡◌, ◌≢◌, ◌↔◌, ◌++◌, IfErr, IfOk, IsSome, None, OnOk, Some, box_value, drop, length, pos, take};
 ghost use Rattle.syntect_assets.specs.declared.assets.Assets.{Assets as AnAssets};
-ghost use Rattle.syntect_c.specs.DocCalls.{BeginsHeld, BeginsNew, BeginsOf, BeginsWith, ReadsHeld, StandsHeld, doc_fault_in, spans_in};
-ghost use Rattle.syntect_c.specs.Documents.{BeginsIn, ReadsLine, StandsAfter};
+ghost use Rattle.syntect_c.specs.DocCalls.{BeginsHeld, BeginsNew, BeginsOf, BeginsWith, NamesStay, ReadsHeld, StandsHeld, doc_fault_in, spans_in};
+ghost use Rattle.syntect_c.specs.Documents.{BeginsIn, ReadsLine, SameNames, StandsAfter};
 ghost use Rattle.syntect_c.specs.Sets.{HasLoadedAlone, HoldsLoadedAlone};
 ghost use Rattle.syntect_c.specs.declared.set.SetContent.{SetContent as ASet};
 ghost use Rattle.syntect_c.specs.declared.set.Stage.TheVariants.{Linked};
@@ -47,6 +47,7 @@ fn line(
     set: &SetContent,
     line: &[u8],
 ) -> Result<(), Refusal>
+    ensures names { SameNames document.old document.new }
     ensures read { (past : Past) (assets : AnAssets) → set.now.stage ≡ Linked assets
         → StandsAfter past assets document.old
         → OnOk result (ReadsLine past assets line.now document.new) }
@@ -57,6 +58,7 @@ fn line(
 
 /// Reads the next line of a document, and answers the number for C.
 fn line_number(alloc: Global, document: &mut DocContent, set: &SetContent, bytes: &[u8]) -> i32
+    ensures names { SameNames document.old document.new }
     ensures read { (past : Past) (assets : AnAssets) → set.now.stage ≡ Linked assets
         → StandsAfter past assets document.old → result ≡ pos 0
         → ReadsLine past assets bytes.now document.new }
@@ -69,6 +71,7 @@ fn line_number(alloc: Global, document: &mut DocContent, set: &SetContent, bytes
 
 /// Puts a document before its first line, and answers the number for C.
 fn reset_number(alloc: Global, document: &mut DocContent, set: &SetContent) -> i32
+    ensures names { SameNames document.old document.new }
     ensures begins { result ≡ pos 0
         → BeginsIn set.now document.old.language document.old.theme document.new }
 {
@@ -81,6 +84,7 @@ fn reset_number(alloc: Global, document: &mut DocContent, set: &SetContent) -> i
 /// Reads the next line of a document with what the handle of a set holds.
 fn read_with(set: &mut Slot, alloc: Global, document: &mut DocContent, bytes: &[u8]) -> i32
     ensures set { set.new.handle.held ≡ set.old.handle.held }
+    ensures names { SameNames document.old document.new }
     ensures read { (past : Past) (content : ASet) (assets : AnAssets)
         → set.old.handle.held ≡ Some content → content.stage ≡ Linked assets
         → StandsAfter past assets document.old → result ≡ pos 0
@@ -99,6 +103,7 @@ fn read_with(set: &mut Slot, alloc: Global, document: &mut DocContent, bytes: &[
 /// Puts a document before its first line, with what the handle of a set holds.
 fn reset_with(set: &mut Slot, alloc: Global, document: &mut DocContent) -> i32
     ensures set { set.new.handle.held ≡ set.old.handle.held }
+    ensures names { SameNames document.old document.new }
     ensures begins { result ≡ pos 0 → BeginsWith set.old.handle.held document.old document.new }
 {
     match mem::replace(set, Slot::empty(alloc)).take() {
@@ -209,6 +214,7 @@ pub extern "C" fn vls_doc_line(
     line_bytes: &[u8],
 ) -> i32
     ensures set { set.new.handle.held ≡ set.old.handle.held }
+    ensures names { NamesStay doc.old.handle.held doc.new.handle.held }
     ensures read { (past : Past) → StandsHeld past set.old.handle.held doc.old.handle.held
         → result ≡ pos 0
         → ReadsHeld past set.old.handle.held line_bytes.now doc.new.handle.held }
@@ -227,6 +233,7 @@ pub extern "C" fn vls_doc_line(
 #[unsafe(no_mangle)]
 pub extern "C" fn vls_doc_reset(doc: &mut DocSlot, set: &mut Slot, alloc: Global) -> i32
     ensures set { set.new.handle.held ≡ set.old.handle.held }
+    ensures names { NamesStay doc.old.handle.held doc.new.handle.held }
     ensures begins { result ≡ pos 0
         → BeginsHeld set.old.handle.held doc.old.handle.held doc.new.handle.held }
 {

@@ -1,7 +1,7 @@
 //! What the handle of a document holds: where a text that is read line by line stands.
 ghost use Rattle.std.specs.Prelude.{◌≡◌, ◌≢◌, IfOk, OnOk, pos};
 ghost use Rattle.syntect_assets.specs.declared.assets.Assets.{Assets as AnAssets};
-ghost use Rattle.syntect_c.specs.Documents.{AnswersLine, AreStatesOf, Begins, BeginsIn, ReadsLine, StandsAfter};
+ghost use Rattle.syntect_c.specs.Documents.{AnswersLine, AreStatesOf, Begins, BeginsIn, ReadsLine, SameNames, StandsAfter};
 ghost use Rattle.syntect_c.specs.declared.set.Stage.TheVariants.{Linked};
 ghost use Rattle.syntect_easy.specs.Leads.{IsPast, Past};
 
@@ -115,8 +115,7 @@ impl DocContent {
 
     /// Puts the text before its first line. What was read is forgotten.
     pub fn reset(&mut self, alloc: Global, set: &SetContent) -> Result<(), Refusal>
-        ensures names { (self.new.language ≡ self.old.language)
-            × (self.new.theme ≡ self.old.theme) }
+        ensures names { SameNames self.old self.new }
         ensures begins { OnOk result
             (BeginsIn set.now self.old.language self.old.theme self.new) }
     {
@@ -134,8 +133,7 @@ impl DocContent {
     /// Reads the next line, within the limits of the set, and keeps its spans. The set has to be the
     /// one that the lines before were read with.
     pub fn read_line(&mut self, alloc: Global, set: &SetContent, line: &str) -> Result<(), Refusal>
-        ensures names { (self.new.language ≡ self.old.language)
-            × (self.new.theme ≡ self.old.theme) }
+        ensures names { SameNames self.old self.new }
         ensures read { (past : Past) (assets : AnAssets) → set.now.stage ≡ Linked assets
             → StandsAfter past assets self.old
             → OnOk result (ReadsLine past assets line.now self.new) }
@@ -164,8 +162,7 @@ impl DocContent {
     pub fn tell(&mut self, alloc: Global, refusal: Refusal) -> i32
         ensures states { self.new.states ≡ self.old.states }
         ensures spans { self.new.spans ≡ self.old.spans }
-        ensures names { (self.new.language ≡ self.old.language)
-            × (self.new.theme ≡ self.old.theme) }
+        ensures names { SameNames self.old self.new }
         ensures refused { result ≢ pos 0 }
     {
         let (number, told) = refusal.into_told(alloc);

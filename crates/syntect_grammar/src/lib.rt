@@ -1,6 +1,5 @@
-//! Grammars: how they are read from their text, their contexts, and sets of them that are linked. A
-//! `SyntaxDefinition` is a grammar as written: named contexts of patterns in order. A
-//! `SyntaxSetBuilder` links them into a `SyntaxSet`, whose contexts name one another by number.
+//! Grammars and sets of them. A `SyntaxDefinition` is a grammar as its text has it: named contexts of
+//! patterns in order. A `SyntaxSetBuilder` links them: a `SyntaxSet`, whose contexts have numbers.
 #![tactic(auto)]
 
 mod apart;

@@ -1,6 +1,5 @@
-//! Grammars as they were written, their contexts and the patterns of these. The rules are those of
-//! Sublime Text. A context's patterns are tried in order; a match may open further contexts, put
-//! others in the place of the top one, or leave it.
+//! Grammars as they were written, by the rules of Sublime Text. A context's patterns are tried in
+//! order; a match may open further contexts, put others in the place of the top one, or leave it.
 pub use crate::below::grammar_contexts::context::{
     CaptureMapping, Context, ContextId, ContextReference, HoldsContexts, MatchOperation,
     MatchPattern, Pattern,

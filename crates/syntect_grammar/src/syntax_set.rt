@@ -50,6 +50,7 @@ pub struct SyntaxSetBuilder {
     syntaxes: Seq<SyntaxDefinition>,
     /// The paths of files that were loaded, each with the place of its definition.
     path_syntaxes: Seq<(Text, usize)>,
+    /// The metadata of files that were loaded.
     raw_metadata: LoadMetadata,
     /// The metadata of the set that the builder was made of.
     metadata: Metadata,

@@ -20,7 +20,8 @@ use syntect_grammar_lists::list::FlatList;
 /// The flat lists of contexts, by syntax and place in that: none of one whose walk was given up.
 pub(crate) type FlatTable = Seq<Seq<Option<FlatList>>>;
 
-/// How many steps an entry the walks of a syntax may take: ten times what written grammars do.
+/// How many steps an entry the walks of a syntax may take before no more lists are kept: ten times
+/// what written grammars take, as a long row of includes would ask for the square of its length.
 const STEPS_AN_ENTRY: usize = 64;
 
 /// A context that is walked, and the index of the next of its entries.

@@ -174,9 +174,11 @@ fn tells_what_stands_behind_a_match_begun(rt: HostRuntime) {
 }
 
 /// A pattern, and whether it is seen to begin where a word begins or ends, and where a line begins.
-const AT_EDGES: [(&str, bool, bool); 3] = [
+const AT_EDGES: [(&str, bool, bool); 5] = [
+    ("\\bword", true, false),
     ("(\\b(a|b))c", true, false),
     ("^a|(?=^b)", false, true),
+    ("word\\b", false, false),
     ("word\\b|^", false, false),
 ];
 
@@ -190,8 +192,7 @@ fn tells_which_patterns_begin_at_edges(rt: HostRuntime) {
     }
 }
 
-/// Sixteen loops in one another, through which a search that backs up has as many
-/// ways as there are.
+/// Sixteen loops in one another: a search that backs up has as many ways as there are.
 #[test]
 fn searches_loops_in_one_another(rt: HostRuntime) {
     let pattern = "((((((((((((((((a*)*)*)*)*)*)*)*)*)*)*)*)*)*)*)*)*b";
@@ -258,8 +259,7 @@ fn pattern_of(rt: &(impl Abort + AllocGlobal), text: &str) -> Regex {
     Regex::new(rt.alloc(), text).expect(rt, "memory")
 }
 
-/// A pattern that backs up too often begins where its matches do, by a plan that is
-/// kept of the line.
+/// A pattern that backs up too often begins where its matches do, by a plan kept of the line.
 #[test]
 fn tries_a_pattern_by_a_plan_that_is_kept(rt: HostRuntime) {
     let regex = pattern_of(&rt, "(a+)+c");

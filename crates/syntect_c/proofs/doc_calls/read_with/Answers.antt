@@ -14,3 +14,6 @@ returns-in-Some-clause-read c = λ past content assets set_is linked stands is.
     let same : content ≡ c.deref.result.now = one_held _ content c.deref.result.now set_is held in
     c.line_number-number.ensures.read past assets
     (subst (λ (s : SetContent). s.stage ≡ Stage.Linked assets) same linked) stands done
+
+pub returns-in-Some-clause-names : goal.returns-in-Some-clause-names
+returns-in-Some-clause-names c = c.line_number-number.ensures.names
