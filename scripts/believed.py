@@ -77,7 +77,6 @@ ENTRIES = [
         ("", "vls_doc_reset"),
         ("", "vls_doc_spans"),
     ]),
-    ("What is wrong with a grammar", [("", "diagnose")]),
 ]
 
 

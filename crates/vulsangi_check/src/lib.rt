@@ -2,7 +2,6 @@
 #![tactic(auto)]
 
 pub mod check;
-pub mod diagnose;
 mod faults;
 mod keys;
 mod patterns;
