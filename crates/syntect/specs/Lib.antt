@@ -14,6 +14,8 @@ pub use Rattle.syntect_buffer.specs.syntect_easy.Marks
 pub use Rattle.syntect_buffer.specs.syntect_easy.Laws
 pub use Rattle.syntect_buffer.specs.syntect_easy.Page
 pub use Rattle.syntect_buffer.specs.syntect_easy.SyntaxReference
+pub use Rattle.syntect_buffer.specs.syntect_easy.Trees
+pub use Rattle.syntect_buffer.specs.syntect_easy.Walks
 pub use Rattle.syntect_buffer.specs.syntect_easy.Limits
 pub use Rattle.syntect_buffer.specs.syntect_easy.FilesWithin
 pub use Rattle.syntect_buffer.specs.syntect_easy.FoldersWithin
@@ -39,5 +41,7 @@ pub use Rattle.syntect_buffer.specs.Fresh
 pub use Rattle.syntect_buffer.specs.Kept
 pub use Rattle.syntect_buffer.specs.States
 pub use Rattle.syntect_buffer.specs.syntect_assets.Assets
+pub use Rattle.syntect_buffer.specs.syntect_assets.Gathered
+pub use Rattle.syntect_buffer.specs.syntect_assets.Refusals
 pub use Rattle.syntect_buffer.specs.syntect_assets.Texts
 pub use Rattle.syntect_buffer.specs.syntect_documents as documents

@@ -5,13 +5,14 @@
 //! call. `easy::HighlightLines` takes lines one after another and answers styled pieces. The modules
 //! `parsing` and `highlighting` have the parts that it is made of. `documents` has pages with numbered
 //! and marked lines, and one style sheet for light and dark screens. `buffer::LineBuffer` keeps the
-//! styles of a text that is edited, and `values` has the types of lists, texts and tables that
-//! fields have.
+//! styles of a text that is edited, `tree` has what calls on files and folders take, and `values` the
+//! types of lists, texts and tables that fields have.
 #![tactic(auto)]
 
 pub mod assets;
 pub mod buffer;
 pub mod documents;
+pub mod tree;
 pub mod values;
 
 pub use syntect_buffer::below::easy::{

@@ -4,13 +4,15 @@ use Rattle.std.specs.Map.{lookup}
 use Rattle.std.specs.BTreeMap.{is_at}
 use Rattle.std.specs.Cmp.Lexicographic.{slice_cmp}
 use Rattle.std.specs.Ordering.{nat_cmp}
+use Rattle.syntect_assets.specs.syntect_base.Trees.{Answer, opened}
 use Rattle.syntect_assets.specs.syntect_grammar.Finding.{found_by_token}
 use Rattle.syntect_assets.specs.syntect_grammar_contexts.declared.syntax_reference.SyntaxReference.{SyntaxReference}
 use Rattle.syntect_assets.specs.syntect_grammar.declared.syntax_set.SyntaxSet.{SyntaxSet}
 use Rattle.syntect_assets.specs.syntect_grammar.declared.error.Error.{Error}
 use Rattle.syntect_assets.specs.syntect_grammar.declared.error.Error.TheVariants as error
 use Rattle.syntect_assets.specs.syntect_theme.declared.theme.Theme.{Theme}
-use Rattle.syntect_easy.specs.Files.{IsSyntaxWithin}
+use Rattle.syntect_easy.specs.Files.{IsToldWithin}
+use Rattle.syntect_easy.specs.Rows.{IsTextOf}
 use Rattle.syntect_assets.specs.Texts.{IsWritten}
 use Rattle.syntect_assets.specs.declared.assets.Assets.{Assets}
 use Rattle.syntect_assets.specs.declared.assets.Shown.{Shown}
@@ -59,17 +61,6 @@ RefusesLine (refusal.NotShown e) = Unit {0}
 RefusesLine refusal.Memory = Unit {0}
 RefusesLine e = ⊥
 
--- a file isn't read or isn't shown, or memory ran out
-abbrev pub RefusesFile : AssetsError → Type 0
-RefusesFile (refusal.NotRead told) = Unit {0}
-RefusesFile e = RefusesLine e
-
--- grammars or themes aren't loaded, or memory ran out
-abbrev pub RefusesLoading : AssetsError → Type 0
-RefusesLoading (refusal.NotLoaded told) = Unit {0}
-RefusesLoading refusal.Memory = Unit {0}
-RefusesLoading e = ⊥
-
 -- ---- what is shown ----
 
 -- the text shows a text in a syntax, by a theme, in a format
@@ -84,11 +75,15 @@ pub record ShowsText (assets : Assets) (text name : List ℕ) (theme : Theme) (f
   pub named : language_named assets name ≡ Some syntax
   pub shows : ShowsIn assets text syntax theme format shown
 
--- the text shows what some file holds, in the syntax of its path or first line, or as plain text
-pub record ShowsFile (assets : Assets) (path : List ℕ) (theme : Theme) (format : Format)
-    (shown : Shown) : Type 0 where
+-- the text shows what the file holds that was opened at the path, in the syntax of its path or of
+-- what it had ahead, or as plain text
+pub record ShowsFile (Told : Answer → Type 0) (assets : Assets) (path : List ℕ) (theme : Theme)
+    (format : Format) (shown : Shown) : Type 0 where
+  pub left : Option (List ℕ)
+  pub told : Told (opened path left)
   pub syntax : SyntaxReference
+  pub syntax_is : IsToldWithin assets.limits assets.set path left syntax shown.first_line
   pub text : List ℕ
-  pub syntax_is : IsSyntaxWithin assets.limits assets.set path syntax shown.first_line
+  pub whole : IsTextOf left text
   pub utf8 : IsUtf8 text
   pub shows : ShowsIn assets text syntax theme format shown

@@ -1,7 +1,9 @@
 pub mod Assets
 pub mod Gathered
+pub mod Refusals
 pub mod Screen
 pub mod Texts
+pub mod WhatLoads
 pub use Rattle.syntect_easy.specs.syntect_base as syntect_base
 pub use Rattle.syntect_easy.specs as syntect_easy
 pub use Rattle.syntect_easy.specs.syntect_grammar as syntect_grammar

@@ -1,14 +1,17 @@
 //! Grammars, the texts of their scopes and themes in one value, and the texts that they show.
-ghost use Rattle.std.specs.Prelude.{◌≡◌, ℕ, List, IfErr, IfOk, Some};
+ghost use Rattle.std.specs.Prelude.{◌≡◌, ℕ, List, length, IfErr, IfOk, Some};
 ghost use Rattle.std.specs.Path.{path_bytes};
 ghost use Rattle.syntect_assets.specs.syntect_grammar_loader.declared.definition.SyntaxDefinition.{SyntaxDefinition as ADefinition};
 ghost use Rattle.syntect_easy.specs.Built.{IsBuilt, IsSyntaxOfBuilt};
 ghost use Rattle.syntect_easy.specs.Loaded.{IsOfLoaded};
 ghost use Rattle.syntect_assets.specs.syntect_theme_files.ThemeFiles.{IsThemeOf};
-ghost use Rattle.syntect_assets.specs.Gathered.{IsOfFolder, IsOfWhatLoads};
-ghost use Rattle.syntect_assets.specs.Assets.{LacksLanguage, LacksTheme, RefusesFile, RefusesLine, RefusesLoading, RefusesText, ShowsFile, ShowsIn, ShowsText, language_named, theme_named};
+ghost use Rattle.syntect_assets.specs.Gathered.{IsOfFolder, IsOfNoFolder, IsOfNoWalk, IsOfWhatLoads};
+ghost use Rattle.syntect_assets.specs.Refusals.{RefusesReading, RefusesThemeIn, TellsFile};
+ghost use Rattle.syntect_assets.specs.syntect_base.Trees.{has_bytes};
+ghost use Rattle.syntect_assets.specs.Assets.{LacksLanguage, LacksTheme, RefusesLine, RefusesText, ShowsFile, ShowsIn, ShowsText, language_named, theme_named};
 
 use crate::below::base::limits::Limits;
+use crate::below::base::tree::Tree;
 use crate::below::grammar_limits::first_line_error::FirstLineLimit;
 use crate::below::parsing::syntax_set::{SyntaxReference, SyntaxSet};
 use crate::below::scope::repository::ScopeRepository;
@@ -21,7 +24,6 @@ use crate::format::Format;
 use crate::lines::{PlainLine, text_of_lines};
 use std::alloc::{AllocError, Global};
 use std::path::Path;
-use std::rt::Files;
 use syntect_easy::Error;
 use syntect_easy::easy::{HighlightFile, HighlightLines};
 
@@ -64,7 +66,7 @@ fn listed(alloc: Global, names: &[&str]) -> Result<String, AllocError> {
 
 /// Why a file isn't shown: that it isn't read comes with its path.
 fn refused_file(alloc: Global, path: Path<'_>, e: Error) -> Result<AssetsError, AllocError>
-    ensures { IfOk result RefusesFile }
+    ensures { IfOk result (TellsFile e) }
 {
     match e {
         Error::Io(e) => {
@@ -83,34 +85,35 @@ impl Assets {
     ///
     /// `NotLoaded` with the file and the reason where one of them can't be loaded;
     /// `AssetsBuilder::add_what_loads` passes such files over.
-    pub fn from_folder(
-        files: &impl Files,
+    pub fn from_folder<T: Tree>(
+        tree: &T,
         alloc: Global,
         folder: Path<'_>,
     ) -> Result<Assets, AssetsError>
-        ensures made { IfOk result (IsOfFolder (path_bytes folder.entry)) }
+        ensures made { IfOk result (IsOfFolder (T.told tree.now) (path_bytes folder.entry)) }
         ensures loaded { IfOk result (λ assets. IsOfLoaded assets.set) }
-        ensures refused { IfErr result RefusesLoading }
+        ensures refused { IfErr result (IsOfNoFolder (T.told tree.now) (path_bytes folder.entry)) }
     {
         let mut builder = AssetsBuilder::new(alloc)?;
-        builder.add_folder(files, alloc, folder)?;
+        builder.add_folder(tree, alloc, folder)?;
         builder.build(alloc)
     }
 
     /// What of a folder can be loaded, as `from_folder` loads it, and why the rest can't be: each
     /// file in words that begin with its path. `NotLoaded` only where the folder can't be walked
     /// through.
-    pub fn what_loads(
-        files: &impl Files,
+    pub fn what_loads<T: Tree>(
+        tree: &T,
         alloc: Global,
         folder: Path<'_>,
     ) -> Result<(Assets, Vec<String>), AssetsError>
-        ensures made { IfOk result (λ r. IsOfWhatLoads (path_bytes folder.entry) r.0) }
+        ensures made { IfOk result (λ r. IsOfWhatLoads (T.told tree.now)
+            (path_bytes folder.entry) (length r.1.items) r.0) }
         ensures loaded { IfOk result (λ r. IsOfLoaded r.0.set) }
-        ensures refused { IfErr result RefusesLoading }
+        ensures refused { IfErr result (IsOfNoWalk (T.told tree.now) (path_bytes folder.entry)) }
     {
         let mut builder = AssetsBuilder::new(alloc)?;
-        let told = builder.add_what_loads(files, alloc, folder)?;
+        let told = builder.add_what_loads(tree, alloc, folder)?;
         Ok((builder.build(alloc)?, told))
     }
 
@@ -168,23 +171,24 @@ impl Assets {
 
     /// The theme in a file, whose scopes join those of the repository. `NotLoaded` with the path
     /// and the reason where it can't be loaded.
-    pub fn theme_in(
+    pub fn theme_in<T: Tree>(
         &mut self,
-        files: &impl Files,
+        tree: &T,
         alloc: Global,
         path: Path<'_>,
     ) -> Result<Theme, AssetsError>
-        // of what the file holds nothing is known but that it gave the theme
         ensures theme { IfOk result (λ theme. (bytes : List ℕ)
+            × T.told tree.now (has_bytes (path_bytes path.entry) bytes)
             × IsThemeOf self.old.repository bytes self.new.repository theme) }
         ensures set { self.new.set ≡ self.old.set }
         ensures themes { self.new.themes ≡ self.old.themes }
         ensures limits { self.new.limits ≡ self.old.limits }
-        ensures refused { IfErr result RefusesLoading }
+        ensures refused { IfErr result
+            (RefusesThemeIn (T.told tree.now) (path_bytes path.entry)) }
     {
-        match ThemeSet::get_theme(files, alloc, path, &mut self.repository) {
+        match ThemeSet::get_theme(tree, alloc, path, &mut self.repository) {
             Ok(theme) => Ok(theme),
-            Err(e) => Err(refused(files, alloc, path, &e)?),
+            Err(e) => Err(refused(tree, alloc, path, &e)?),
         }
     }
 
@@ -250,22 +254,24 @@ impl Assets {
     ///
     /// `NotRead` with the path where the file isn't read or isn't UTF-8; `NotShown` with the line's
     /// refusal, or with `NoSyntax` where no syntax fits and there is no plain text.
-    pub fn show_file(
+    #[tactic(auto, using(crate::proofs::AssetsLaws::file_refused, crate::proofs::AssetsLaws::file_left_off))]
+    pub fn show_file<T: Tree>(
         &self,
-        files: &impl Files,
+        tree: &T,
         alloc: Global,
         path: Path<'_>,
         theme: &Theme,
         format: Format,
     ) -> Result<Shown, AssetsError>
-        // the set was built of plain definitions; of what the file holds nothing is known but that
-        // this shows it
+        // the set was built of plain definitions
         ensures shown { (definitions : List ADefinition) → IsBuilt self.now.set definitions
-            → IfOk result (ShowsFile self.now (path_bytes path.entry) theme.now format) }
-        ensures refused { IfErr result RefusesFile }
+            → IfOk result (ShowsFile (T.told tree.now) self.now (path_bytes path.entry)
+            theme.now format) }
+        ensures refused { IfErr result
+            (RefusesReading (T.told tree.now) (path_bytes path.entry)) }
     {
         let limits = &self.limits;
-        let opened = HighlightFile::new_or_plain(files, alloc, path, &self.set, theme, limits);
+        let opened = HighlightFile::new_or_plain(tree, alloc, path, &self.set, theme, limits);
         let (file, first_line) = match opened {
             Ok(opened) => opened,
             Err(e) => return Err(refused_file(alloc, path, e)?),

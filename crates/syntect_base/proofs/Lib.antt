@@ -1,2 +1,3 @@
-pub mod WalkLaws
 mod NameLaws
+pub mod ReadLaws
+pub mod WalkLaws

@@ -5,8 +5,6 @@ use Rattle.std.specs.Str.{is_utf8, str_eq_ignore_ascii_case}
 use Rattle.syntect_base.specs.declared.utils.Sought.{Sought}
 use Rattle.syntect_base.specs.declared.utils.Sought.TheVariants.{Grammars, Themes}
 
--- ---- For proofs and private functions alone ----
-
 -- the name may be that of a file that is looked for
 abbrev pub is_sought : Sought → List ℕ → Bool
 is_sought Grammars name = ends_with ◌==◌ name (codes ".sublime-syntax")
@@ -22,6 +20,21 @@ entry_name name =
 abbrev pub entry_of : List ℕ → Option (List ℕ)
 entry_of name = if is_utf8 name then entry_name name else None
 
+-- what this makes of the names among bytes in which a NUL comes after each
+abbrev pub named : (List ℕ → Option (List ℕ)) → List ℕ → List (List ℕ)
+named f bytes = filter_map f (slice_split (λ b. b == 0) bytes)
+
 -- the names of entries among bytes in which a NUL comes after each
 abbrev pub entries_in : List ℕ → List (List ℕ)
-entries_in bytes = filter_map entry_of (slice_split (λ b. b == 0) bytes)
+entries_in bytes = named entry_of bytes
+
+-- a name that is no text, so that no path leads there, and that may be that of a file that is
+-- looked for
+abbrev pub lost_of : Sought → List ℕ → Option (List ℕ)
+lost_of sought name =
+    if is_utf8 name then None else (if is_sought sought name then Some name else None)
+
+-- the names of files that are looked for to which no path leads, among bytes in which a NUL comes
+-- after each
+abbrev pub lost_in : Sought → List ℕ → List (List ℕ)
+lost_in sought bytes = named (lost_of sought) bytes

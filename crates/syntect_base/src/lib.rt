@@ -7,6 +7,7 @@ pub mod loading;
 pub mod settings;
 pub mod syntax;
 pub mod theme;
+pub mod tree;
 pub mod utils;
 
 pub use syntect_pattern;

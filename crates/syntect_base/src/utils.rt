@@ -1,22 +1,23 @@
 //! The files of a folder.
-ghost use Rattle.std.specs.Prelude.{◌≡◌, ◌≢◌, ◌==◌, ℕ, ◌<◌, ◌≤◌, true, false, List, [], ◌∷◌, ◌++◌, map, reverse, if◌then◌else◌, IsUtf8, IsPermutation, length, IfOk, OnOk, IfErr, IfSome, IfNone};
+ghost use Rattle.std.specs.Prelude.{◌≡◌, ◌≢◌, ◌==◌, ℕ, ◌+◌, ◌<◌, ◌≤◌, true, false, List, [], ◌∷◌, ◌++◌, map, reverse, IsUtf8, IsPermutation, length, None, IfOk, OnOk, IfErr, IfSome, IfNone};
 ghost use Rattle.std.specs.IoError.{error_kind};
 ghost use Rattle.std.specs.Option.{option_copied};
 ghost use Rattle.std.specs.Path.{path_bytes};
 ghost use Rattle.std.specs.List.{filter_map, position_or_len};
-ghost use Rattle.syntect_base.specs.Names.{entry_name, entry_of, entries_in, is_sought};
-ghost use Rattle.syntect_base.specs.Walks.{joined, InByteOrder, IsWalk, IsWalkFault, Visits, GivesFile};
+ghost use Rattle.syntect_base.specs.Names.{entry_name, entry_of, entries_in, is_sought, lost_of, lost_in};
+ghost use Rattle.syntect_base.specs.Walks.{joined, InByteOrder, Lists, Unlisted, Entry, End, files_of, broken, Visits, IsWalk, RefusesWalk, GivesFile, GivesNone, RefusesFile};
 ghost use Rattle.syntect_base.specs.declared.loading.LoadingError.TheVariants.{WalkDir, Memory};
+ghost use Rattle.syntect_base.specs.declared.utils.Sought.{Sought as ASought};
 
 use crate::loading::LoadingError;
 use crate::syntect_values::seq::Seq;
 use crate::syntect_values::text::Text;
+use crate::tree::{Kind, Tree};
 use std::alloc::{AllocError, Global};
-use std::io::{BufReader, ErrorKind, Read};
+use std::io::ErrorKind;
 use std::marker::Model;
 use std::path::Path;
-use std::rt::Files;
-use std::{fs, io, str};
+use std::{io, str};
 
 /// What a walk looks for.
 #[derive(Clone, Copy)]
@@ -25,49 +26,15 @@ pub enum Sought {
     Themes,
 }
 
-/// What an entry of a folder is.
-#[derive(Clone, Copy)]
-enum Kind {
-    File,
-    Folder,
-    /// Neither, or a link to a folder.
-    Other,
-}
-
 /// A fault of a walk.
 fn walk_fault(e: io::Error) -> LoadingError
     ensures memory { error_kind e ≡ ErrorKind.OutOfMemory → result ≡ Memory }
     ensures other { error_kind e ≢ ErrorKind.OutOfMemory → result ≡ WalkDir }
-    ensures either { IsWalkFault result }
 {
     if e.kind() == ErrorKind::OutOfMemory {
         LoadingError::Memory
     } else {
         LoadingError::WalkDir
-    }
-}
-
-/// What stands at a path. A link is what it leads to, but that no link is a folder.
-fn kind_of(files: &impl Files, path: &str) -> Result<Kind, LoadingError>
-    ensures err { IfErr result IsWalkFault }
-{
-    let own = match fs::symlink_metadata(files, path) {
-        Ok(own) => own,
-        Err(e) => return Err(walk_fault(e)),
-    };
-    if own.is_file() {
-        return Ok(Kind::File);
-    }
-    if own.is_dir() {
-        return Ok(Kind::Folder);
-    }
-    if !own.is_symlink() {
-        return Ok(Kind::Other);
-    }
-    match fs::metadata(files, path) {
-        Ok(target) if target.is_file() => Ok(Kind::File),
-        Ok(_) => Ok(Kind::Other),
-        Err(e) => Err(walk_fault(e)),
     }
 }
 
@@ -79,18 +46,6 @@ fn path_below(alloc: Global, folder: &str, name: &str) -> Result<Text, AllocErro
     path.push('/')?;
     path.push_str(name)?;
     Ok(path)
-}
-
-/// The names in a folder as the file system tells them: their bytes, and a NUL after each.
-fn listing(files: &impl Files, alloc: Global, folder: &str) -> Result<Vec<u8>, io::Error> {
-    let mut path = String::from_str(alloc, folder)?;
-    if !folder.is_empty() && !folder.ends_with('/') {
-        path.push_str("/")?;
-    }
-    let mut reader = BufReader::new(alloc, files.open_dir(path.as_str())?)?;
-    let mut bytes = Vec::new(alloc);
-    reader.read_to_end(&mut bytes)?;
-    Ok(bytes)
 }
 
 /// Whether a name may be that of a file that is looked for.
@@ -119,12 +74,11 @@ fn entry_name(text: &str) -> Option<&str>
 
 /// The name of an entry from its bytes. One that is no text is passed over, since no path leads
 /// there; but where it may be that of a file that is looked for, it is a fault.
-#[tactic(auto, using(crate::proofs::NameLaws::entry_text, crate::proofs::NameLaws::entry_none))]
+#[tactic(auto, using(crate::proofs::NameLaws::entry_text, crate::proofs::NameLaws::entry_none, crate::proofs::NameLaws::lost_text, crate::proofs::NameLaws::lost_one))]
 fn entry_of(sought: Sought, name: &[u8]) -> Result<Option<&str>, LoadingError>
     ensures entry { IfOk result (λ entry. option_copied entry ≡ entry_of name.now) }
-    ensures passed { IfOk result (λ entry.
-        ¬ (IsUtf8 name.now) → is_sought sought name.now ≡ false) }
-    ensures fault { IfErr result (λ e. ¬ (IsUtf8 name.now) × (is_sought sought name.now ≡ true)) }
+    ensures passed { IfOk result (λ entry. lost_of sought name.now ≡ None) }
+    ensures fault { IfErr result (λ e. lost_of sought name.now ≢ None) }
     ensures err { IfErr result (λ e. e ≡ WalkDir) }
 {
     match str::from_utf8(name) {
@@ -143,7 +97,9 @@ fn add_entry(
 ) -> Result<(), LoadingError>
     ensures ok { OnOk result
         (names.new.items ≡ names.old.items ++ filter_map entry_of (name.now ∷ [])) }
-    ensures err { IfErr result IsWalkFault }
+    ensures none_lost { OnOk result (filter_map (lost_of sought) (name.now ∷ []) ≡ []) }
+    ensures err { IfErr result (λ e. e ≢ Memory → e ≡ WalkDir) }
+    ensures one_lost { IfErr result (λ e. e ≢ Memory → lost_of sought name.now ≢ None) }
 {
     match entry_of(sought, name) {
         Ok(Some(entry)) => names.push(Text::from_str(alloc, entry)?)?,
@@ -165,6 +121,8 @@ fn name_len(bytes: &[u8]) -> usize
 fn first_name(bytes: &[u8]) -> (&[u8], &[u8])
     ensures entries { entries_in bytes.now
         ≡ filter_map entry_of (result.0.now ∷ []) ++ entries_in result.1.now }
+    ensures lost { (sought : ASought) → lost_in sought bytes.now
+        ≡ filter_map (lost_of sought) (result.0.now ∷ []) ++ lost_in sought result.1.now }
     ensures shorter { 0 < length bytes.now → length result.1.now < length bytes.now }
 {
     let (name, rest) = bytes.split_at(name_len(bytes));
@@ -175,11 +133,14 @@ fn first_name(bytes: &[u8]) -> (&[u8], &[u8])
     (name, behind)
 }
 
-/// The names of entries among bytes in which a NUL comes after each, in byte order.
+/// The names of entries among bytes in which a NUL comes after each, in byte order. One that is no
+/// text is a fault where it may be that of a file that is looked for.
 fn entries_among(alloc: Global, bytes: &[u8], sought: Sought) -> Result<Vec<Text>, LoadingError>
     ensures all { IfOk result (λ names. IsPermutation (entries_in bytes.now) names.items) }
     ensures order { IfOk result (λ names. InByteOrder names.items) }
-    ensures err { IfErr result IsWalkFault }
+    ensures none_lost { IfOk result (λ names. lost_in sought bytes.now ≡ []) }
+    ensures err { IfErr result (λ e. e ≢ Memory → e ≡ WalkDir) }
+    ensures one_lost { IfErr result (λ e. e ≢ Memory → lost_in sought bytes.now ≢ []) }
 {
     let mut names = Vec::new(alloc);
     let mut rest = bytes;
@@ -212,75 +173,99 @@ fn add_paths(
 
 /// Puts the paths of a folder's entries on what is still to be visited, so that the first is
 /// visited first.
-#[tactic(auto, using(crate::proofs::WalkLaws::entered))]
-fn enter(
-    files: &impl Files,
+fn enter<T: Tree>(
+    tree: &T,
     alloc: Global,
     folder: &str,
     sought: Sought,
     ahead: &mut Seq<Text>,
 ) -> Result<(), LoadingError>
-    ensures ok { OnOk result ((rest : List (List ℕ)) → Visits (reverse ahead.new) rest
-        → (inner files : List (List ℕ)) × IsWalk folder.now inner
-        × Visits (reverse ahead.old) files × (rest ≡ inner ++ files)) }
-    ensures err { IfErr result IsWalkFault }
+    ensures ok { OnOk result ((names : List (List ℕ))
+        × Lists (T.told tree.now) sought folder.now names
+        × (ahead.new ≡ ahead.old ++ reverse (map (joined folder.now) names))) }
+    ensures err { IfErr result (λ e. e ≢ Memory → e ≡ WalkDir) }
+    ensures unlisted { IfErr result (λ e. e ≢ Memory
+        → Unlisted (T.told tree.now) sought folder.now) }
 {
-    let bytes = match listing(files, alloc, folder) {
+    let bytes = match tree.list_folder(alloc, folder) {
         Ok(bytes) => bytes,
         Err(e) => return Err(walk_fault(e)),
     };
-    let names = entries_among(alloc, bytes.as_slice(), sought)?;
+    let names = match entries_among(alloc, bytes.as_slice(), sought) {
+        Ok(names) => names,
+        Err(e) => return Err(e),
+    };
     add_paths(alloc, folder, names.as_slice(), ahead)?;
     Ok(())
 }
 
-/// Visits what stands at a path: whether it is a file. A folder is entered.
-fn visit(
-    files: &impl Files,
+/// Visits what stands at a path, and answers it. A folder is entered.
+fn visit<T: Tree>(
+    tree: &T,
     alloc: Global,
     path: &str,
     sought: Sought,
     ahead: &mut Seq<Text>,
-) -> Result<bool, LoadingError>
-    ensures ok { IfOk result (λ is_file. (rest : List (List ℕ)) → Visits (reverse ahead.new) rest
-        → Visits (path.now ∷ reverse ahead.old) (if is_file then path.now ∷ rest else rest)) }
-    ensures err { IfErr result IsWalkFault }
+) -> Result<Kind, LoadingError>
+    ensures ok { IfOk result (λ kind. (rest : List Entry) (end : End)
+        → Visits (T.told tree.now) sought (reverse ahead.new) rest end
+        → Visits (T.told tree.now) sought (path.now ∷ reverse ahead.old)
+        ((path.now, kind) ∷ rest) end) }
+    ensures err { IfErr result (λ e. e ≢ Memory → e ≡ WalkDir) }
+    ensures breaks { IfErr result (λ e. e ≢ Memory
+        → (seen : List Entry) × (files_of seen ≡ [])
+        × Visits (T.told tree.now) sought (path.now ∷ reverse ahead.old) seen broken) }
 {
-    match kind_of(files, path) {
-        Ok(Kind::File) => Ok(true),
-        Ok(Kind::Folder) => match enter(files, alloc, path, sought, ahead) {
-            Ok(()) => Ok(false),
+    match tree.kind_at(path) {
+        Ok(Kind::Folder) => match enter(tree, alloc, path, sought, ahead) {
+            Ok(()) => Ok(Kind::Folder),
             Err(e) => Err(e),
         },
-        Ok(Kind::Other) => Ok(false),
-        Err(e) => Err(e),
+        Ok(Kind::File) => Ok(Kind::File),
+        Ok(Kind::Other) => Ok(Kind::Other),
+        Err(e) => Err(walk_fault(e)),
+    }
+}
+
+/// Whether an entry is a file.
+fn is_file(kind: Kind) -> bool
+    ensures file { result ≡ true → kind ≡ Kind.File }
+    ensures other { result ≡ false → kind ≢ Kind.File }
+{
+    match kind {
+        Kind::File => true,
+        Kind::Folder => false,
+        Kind::Other => false,
     }
 }
 
 /// Visits what is ahead up to the next file, which it answers by its path; so many entries at most.
-fn go_on(
-    files: &impl Files,
+fn go_on<T: Tree>(
+    tree: &T,
     alloc: Global,
     sought: Sought,
     ahead: &mut Seq<Text>,
     left: &mut u64,
 ) -> Result<Option<Text>, LoadingError>
-    ensures first { IfOk result (λ found. IfSome found (λ path.
-        (rest : List (List ℕ)) → Visits (reverse ahead.new) rest
-        → Visits (reverse ahead.old) (path ∷ rest))) }
-    ensures fewer { IfOk result (λ found. IfSome found (λ _. left.new < left.old)) }
-    ensures ended { IfOk result (λ found. IfNone found (ahead.new ≡ [])) }
-    ensures err { IfErr result IsWalkFault }
+    ensures found { IfOk result (λ found. IfSome found (GivesFile (T.told tree.now)
+        (record { sought = sought; paths = reverse ahead.old; left = left.old })
+        (record { sought = sought; paths = reverse ahead.new; left = left.new }))) }
+    ensures none { IfOk result (λ found. IfNone found (GivesNone (T.told tree.now)
+        (record { sought = sought; paths = reverse ahead.old; left = left.old }))) }
+    ensures err { IfErr result (RefusesFile (T.told tree.now)
+        (record { sought = sought; paths = reverse ahead.old; left = left.old })) }
 {
     'entries: while let Some(path) = ahead.pop() {
         if *left == 0 {
             return Err(LoadingError::WalkDir);
         }
         *left -= 1;
-        match visit(files, alloc, path.as_str(), sought, ahead) {
-            Ok(true) => return Ok(Some(path)),
-            Ok(false) => {}
+        let kind = match visit(tree, alloc, path.as_str(), sought, ahead) {
+            Ok(kind) => kind,
             Err(e) => return Err(e),
+        };
+        if is_file(kind) {
+            return Ok(Some(path));
         }
     }
     Ok(None)
@@ -305,24 +290,26 @@ impl Model for Walk {
 
     ghost Value = { Ahead };
 
-    ghost view = { λ a. record { paths = reverse a.ahead; left = a.left } };
+    ghost view = { λ a. record { sought = a.sought; paths = reverse a.ahead; left = a.left } };
 }
 
 impl Walk {
     ghost use Rattle.syntect_base.specs.Walks.{IsWalkSoFar};
 
-    /// The walk through a folder. One that cannot be read is `WalkDir`.
-    pub fn new(
-        files: &impl Files,
+    /// The walk through a folder, whose entries are listed. One that cannot be listed is `WalkDir`.
+    pub fn new<T: Tree>(
+        tree: &T,
         alloc: Global,
         folder: Path<'_>,
         sought: Sought,
     ) -> Result<Walk, LoadingError>
-        ensures ok { IfOk result (IsWalkSoFar (path_bytes folder.entry) []) }
-        ensures err { IfErr result IsWalkFault }
+        ensures ok { IfOk result
+            (IsWalkSoFar (T.told tree.now) sought (path_bytes folder.entry) []) }
+        ensures err { IfErr result
+            (RefusesWalk (T.told tree.now) sought (path_bytes folder.entry) []) }
     {
         let mut ahead = Seq::new(alloc);
-        match enter(files, alloc, folder.as_str(), sought, &mut ahead) {
+        match enter(tree, alloc, folder.as_str(), sought, &mut ahead) {
             Ok(()) => Ok(Walk {
                 sought,
                 ahead,
@@ -335,37 +322,44 @@ impl Walk {
     /// The next file, and nothing after the last. A path is the folder's text and the names, joined
     /// by `/`. A fault of the walk, or more than 2^64 - 1 entries, is `WalkDir`; what is visited
     /// after it is left open.
-    pub fn next_file(
+    pub fn next_file<T: Tree>(
         &mut self,
-        files: &impl Files,
+        tree: &T,
         alloc: Global,
     ) -> Result<Option<Text>, LoadingError>
-        ensures found { IfOk result (λ found. IfSome found (GivesFile self.old self.new)) }
-        ensures ended { IfOk result (λ found. IfNone found (self.new.paths ≡ [])) }
-        ensures err { IfErr result IsWalkFault }
+        ensures found { IfOk result
+            (λ found. IfSome found (GivesFile (T.told tree.now) self.old self.new)) }
+        ensures none { IfOk result
+            (λ found. IfNone found (GivesNone (T.told tree.now) self.old)) }
+        ensures err { IfErr result (RefusesFile (T.told tree.now) self.old) }
     {
-        go_on(files, alloc, self.sought, &mut self.ahead, &mut self.left)
+        go_on(tree, alloc, self.sought, &mut self.ahead, &mut self.left)
     }
 }
 
 /// The paths of the files in a folder and in the folders below it, in the order of a walk that
 /// looks for themes. A fault of the walk is `WalkDir`.
-pub fn files_below(
-    files: &impl Files,
+pub fn files_below<T: Tree>(
+    tree: &T,
     alloc: Global,
     folder: Path<'_>,
 ) -> Result<Seq<Text>, LoadingError>
-    ensures ok { IfOk result (λ found. IsWalk (path_bytes folder.entry) found) }
-    ensures err { IfErr result IsWalkFault }
+    ensures ok { IfOk result
+        (IsWalk (T.told tree.now) Sought.Themes (path_bytes folder.entry)) }
+    ensures err { IfErr result (λ e. (found : List (List ℕ))
+        × RefusesWalk (T.told tree.now) Sought.Themes (path_bytes folder.entry) found e) }
 {
     let mut found = Seq::new(alloc);
-    let mut walk = match Walk::new(files, alloc, folder, Sought::Themes) {
+    let mut walk = match Walk::new(tree, alloc, folder, Sought::Themes) {
         Ok(walk) => walk,
         Err(e) => return Err(e),
     };
     'files: loop {
-        match walk.next_file(files, alloc) {
-            Ok(Some(path)) => found.push(path)?,
+        match walk.next_file(tree, alloc) {
+            Ok(Some(path)) => match found.push(path) {
+                Ok(()) => {}
+                Err(_) => return Err(LoadingError::Memory),
+            },
             Ok(None) => return Ok(found),
             Err(e) => return Err(e),
         }

@@ -18,6 +18,7 @@ use Rattle.syntect_cat.specs.syntect_theme_files.ThemeFiles.{IsThemeOf}
 use Rattle.syntect_cat.specs.syntect_grammar.declared.error.Error.{Error}
 use Rattle.syntect_cat.specs.syntect_grammar.declared.error.Error.TheVariants as error
 use Rattle.syntect_cat.specs.syntect_base.Limiting.{usual}
+use Rattle.syntect_cat.specs.syntect_base.Trees.{Answer, has_bytes}
 use Rattle.syntect_cat.specs.syntect_base.declared.limits.Limits.{Limits}
 use Rattle.syntect_cat.specs.syntect_base.declared.limits.LimitReached.{LimitReached}
 use Rattle.syntect_cat.specs.syntect_grammar_limits.FoldersWithin.{AddsFolderWithin, RefusesFolderWithin}
@@ -26,7 +27,7 @@ use Rattle.syntect_cat.proofs.syntect_grammar_limits_proofs.FolderLaws.{added_wi
 use Rattle.syntect_cat.specs.Faults.{fault_of, fault_line, plain_line, without_limit}
 use Rattle.syntect_cat.specs.declared.note.Note.{Note}
 use Rattle.syntect_cat.specs.Shown.{IsSetOf, PassesLimit, HasReason, HasReasonFor, IsShown, IsAskedFor}
-use Rattle.syntect_cat.specs.Texts.{ShowsFile}
+use Rattle.syntect_cat.specs.Texts.{IsFaultOfFile, ShowsFile}
 use Rattle.syntect_cat.specs.Words.{words_for, words_of}
 use Rattle.syntect_cat.specs.declared.fault.Fault.{Fault}
 use Rattle.syntect_cat.specs.declared.fault.Fault.TheVariants as fault
@@ -45,22 +46,22 @@ plain_first : LoadsPlain → (old new : SyntaxSetBuilder) (before after : List (
 plain_first law old new before after a e =
     subst (All IsPlain) (sym (a.definitions ∙ ap (λ ds. ds ++ a.definition ∷ []) e)) (one_plain a.definition (law _ _ _ _ _ _ a.loads))
 
-plain_more : LoadsPlain → (newlines : Bool) (files old new : List (List ℕ)) (builder all : SyntaxSetBuilder) → All IsPlain (definitions_in builder) → AddsSyntaxes newlines files old builder new all → All IsPlain (definitions_in all)
-plain_more law newlines _ _ _ _ _ p no_more = p
-plain_more law newlines _ _ _ _ _ p (other e f a) = plain_more law newlines _ _ _ _ _ p a
-plain_more law newlines _ _ _ _ _ p (metadata e (entry_added i) a) = plain_more law newlines _ _ _ _ _ p a
-plain_more law newlines _ _ _ _ _ p (metadata e (passed_over f n) a) = plain_more law newlines _ _ _ _ _ p a
-plain_more law newlines _ _ _ builder _ p (grammar {d = d} e l a) =
-    plain_more law newlines _ _ _ _ _ (All-append IsPlain (definitions_in builder) (d ∷ []) p (one_plain d (law _ _ _ _ _ _ l.loads))) a
+plain_more : LoadsPlain → (Told : Answer → Type 0) (newlines : Bool) (files old new : List (List ℕ)) (builder all : SyntaxSetBuilder) → All IsPlain (definitions_in builder) → AddsSyntaxes Told newlines files old builder new all → All IsPlain (definitions_in all)
+plain_more law Told newlines _ _ _ _ _ p no_more = p
+plain_more law Told newlines _ _ _ _ _ p (other e f a) = plain_more law Told newlines _ _ _ _ _ p a
+plain_more law Told newlines _ _ _ _ _ p (metadata e (entry_added t i) a) = plain_more law Told newlines _ _ _ _ _ p a
+plain_more law Told newlines _ _ _ _ _ p (metadata e (passed_over f n) a) = plain_more law Told newlines _ _ _ _ _ p a
+plain_more law Told newlines _ _ _ builder _ p (grammar {d = d} e t l a) =
+    plain_more law Told newlines _ _ _ _ _ (All-append IsPlain (definitions_in builder) (d ∷ []) p (one_plain d (law _ _ _ _ _ _ l.loads))) a
 
-pub set_built : LoadsPlain → (folder : List ℕ) (repository : List (List ℕ)) (set : SyntaxSet) → IsSetOf folder repository set → (definitions : List SyntaxDefinition) × IsBuilt set definitions
-set_built law folder repository set s =
-    let a = added_within usual true folder s.left s.plain s.found s.all s.adds_folder in (
+pub set_built : LoadsPlain → (Told : Answer → Type 0) (folder : List ℕ) (repository : List (List ℕ)) (set : SyntaxSet) → IsSetOf Told folder repository set → (definitions : List SyntaxDefinition) × IsBuilt set definitions
+set_built law Told folder repository set s =
+    let a = added_within Told usual true folder s.left s.plain s.found s.all s.adds_folder in (
       definitions_in s.all,
       record {
         links = s.syntaxes;
         plain =
-            plain_more law true a.files s.left s.found s.plain s.all
+            plain_more law Told true a.files s.left s.found s.plain s.all
             (plain_first law no_definitions s.plain [] s.left s.adds_plain refl) a.adds;
       },
     )
@@ -73,11 +74,11 @@ plain_added start plain before left e d p a = record {
   paths = a.paths ∙ p;
 }
 
-pub set_of : (folder : List ℕ) (limits : Limits) (start plain all : SyntaxSetBuilder) (before left found after : List (List ℕ)) (set : SyntaxSet) → limits ≡ usual → before ≡ [] → definitions_in start ≡ [] → paths_in start ≡ []
+pub set_of : (Told : Answer → Type 0) (folder : List ℕ) (limits : Limits) (start plain all : SyntaxSetBuilder) (before left found after : List (List ℕ)) (set : SyntaxSet) → limits ≡ usual → before ≡ [] → definitions_in start ≡ [] → paths_in start ≡ []
     → entries_in start ≡ [] → kept_sets start ≡ [] → entries_in plain ≡ entries_in start → kept_sets plain ≡ kept_sets start
-    → AddsPlainText start plain before left → AddsFolderWithin limits true folder left plain found all → syntaxes_in set ≡ linked (definitions_in all) → set_paths set ≡ paths_in all
-    → IsMergedOf found all after (metadata_in set) → IsSetOf folder after set
-set_of folder limits start plain all before left found after set u e d p es ks same_es same_ks a b f g m = record {
+    → AddsPlainText start plain before left → AddsFolderWithin Told limits true folder left plain found all → syntaxes_in set ≡ linked (definitions_in all) → set_paths set ≡ paths_in all
+    → IsMergedOf found all after (metadata_in set) → IsSetOf Told folder after set
+set_of Told folder limits start plain all before left found after set u e d p es ks same_es same_ks a b f g m = record {
   plain = plain;
   all = all;
   left = left;
@@ -85,7 +86,7 @@ set_of folder limits start plain all before left found after set u e d p es ks s
   adds_plain = plain_added start plain before left e d p a;
   no_entries = same_es ∙ es;
   nothing_kept = same_ks ∙ ks;
-  adds_folder = subst (λ (l : Limits). AddsFolderWithin l true folder left plain found all) u b;
+  adds_folder = subst (λ (l : Limits). AddsFolderWithin Told l true folder left plain found all) u b;
   syntaxes = f;
   paths = g;
   metadata = m;
@@ -93,55 +94,38 @@ set_of folder limits start plain all before left found after set u e d p es ks s
 
 -- ---- reasons of faults ----
 
-pub passes_limit : (folder : List ℕ) (limits : Limits) (start plain all : SyntaxSetBuilder) (before left found : List (List ℕ)) (r : LimitReached) (path : String Global) → limits ≡ usual → before ≡ [] → definitions_in start ≡ []
-    → paths_in start ≡ [] → AddsPlainText start plain before left → RefusesFolderWithin limits true folder left plain (folder_error.LimitReached r path) found all → HasReason folder (fault.Limit r path)
-passes_limit folder limits start plain all before left found r path u e d p a f s told same =
-    let same_limit : r ≡ s = cc in
-    let same_path : path ≡ told = cc in
-    subst (λ (t : String Global). PassesLimit folder s t) same_path
-    (subst (λ (l : LimitReached). PassesLimit folder l path) same_limit
-    (record {
+pub passes_limit : (Told : Answer → Type 0) (folder : List ℕ) (limits : Limits) (start plain all : SyntaxSetBuilder) (before left found : List (List ℕ)) (r : LimitReached) (path : String Global) → limits ≡ usual → before ≡ [] → definitions_in start ≡ []
+    → paths_in start ≡ [] → AddsPlainText start plain before left → RefusesFolderWithin Told limits true folder left plain (folder_error.LimitReached r path) found all → PassesLimit Told folder r path
+passes_limit Told folder limits start plain all before left found r path u e d p a f =
+    record {
       plain = plain;
       all = all;
       left = left;
       found = found;
       adds_plain = plain_added start plain before left e d p a;
-      refuses = subst (λ (l : Limits). RefusesFolderWithin l true folder left plain (folder_error.LimitReached r path) found all) u f;
-    }))
+      refuses = subst (λ (l : Limits). RefusesFolderWithin Told l true folder left plain (folder_error.LimitReached r path) found all) u f;
+    }
 
--- faults that name no limit need none
-pub no_syntaxes : (folder : List ℕ) → HasReason folder fault.Syntaxes
-no_syntaxes folder r path e = absurd (no_limit r path e)
-  where
-    no_limit : (r : LimitReached) (path : String Global) → fault.Syntaxes ≡ fault.Limit r path → ⊥
-    no_limit r path e = cc
+-- a fault of the theme needs no reason
+pub no_theme : (Told : Answer → Type 0) (folder file : List ℕ) (f : Fault) → f ≡ fault.Theme → HasReason Told folder file f
+no_theme Told folder file f t = subst (HasReason Told folder file) (sym t) tt
 
-pub no_theme : (folder : List ℕ) (f : Fault) → f ≡ fault.Theme → HasReason folder f
-no_theme folder f t r path e = absurd (no_limit r path (sym t ∙ e))
-  where
-    no_limit : (r : LimitReached) (path : String Global) → fault.Theme ≡ fault.Limit r path → ⊥
-    no_limit r path e = cc
+-- why a file isn't shown
+reason_of : (Told : Answer → Type 0) (folder file : List ℕ) (e : Error) → IsFaultOfFile Told file e → HasReason Told folder file (fault_of e)
+reason_of Told folder file (error.Io x) h = (x, h)
+reason_of Told folder file (error.LoadingError x) h = tt
+reason_of Told folder file (error.ParsingError x) h = tt
+reason_of Told folder file (error.ScopeError x) h = tt
+reason_of Told folder file (error.Fmt x) h = tt
+reason_of Told folder file error.NoSyntax h = tt
+reason_of Told folder file (error.ParseSyntax e) h = tt
+reason_of Told folder file (error.ParseScope e) h = tt
+reason_of Told folder file (error.Pattern e) h = tt
+reason_of Told folder file error.Memory h = tt
 
-pub not_written : (folder : List ℕ) → HasReason folder fault.Writing
-not_written folder r path e = absurd (no_limit r path e)
-  where
-    no_limit : (r : LimitReached) (path : String Global) → fault.Writing ≡ fault.Limit r path → ⊥
-    no_limit r path e = cc
-
-never_limit : (e : Error) (r : LimitReached) (path : String Global) → fault_of e ≡ fault.Limit r path → ⊥
-never_limit (error.Io x) r path h = cc
-never_limit (error.LoadingError x) r path h = cc
-never_limit (error.ParsingError x) r path h = cc
-never_limit (error.ScopeError x) r path h = cc
-never_limit (error.Fmt x) r path h = cc
-never_limit error.NoSyntax r path h = cc
-never_limit (error.ParseSyntax e) r path h = cc
-never_limit (error.ParseScope e) r path h = cc
-never_limit (error.Pattern e) r path h = cc
-never_limit error.Memory r path h = cc
-
-pub not_shown : (folder : List ℕ) (e : Error) (f : Fault) → f ≡ fault_of e → HasReason folder f
-not_shown folder e f same r path h = absurd (never_limit e r path (sym same ∙ h))
+pub not_shown : (Told : Answer → Type 0) (folder file path : List ℕ) (e : Error) (f : Fault) → f ≡ fault_of e → path ≡ file → IsFaultOfFile Told path e → HasReason Told folder file f
+not_shown Told folder file path e f same p h =
+    subst (HasReason Told folder file) (sym same) (reason_of Told folder file e (subst (λ (x : List ℕ). IsFaultOfFile Told x e) p h))
 
 pub plain_told : (f : Fault) → plain_line f ≡ fault_line (without_limit f)
 plain_told fault.Syntaxes = refl
@@ -151,18 +135,18 @@ plain_told fault.File = refl
 plain_told fault.Highlighting = refl
 plain_told fault.Writing = refl
 
-without_is_none : (f : Fault) (r : LimitReached) (path : String Global) → without_limit f ≡ fault.Limit r path → ⊥
-without_is_none fault.Syntaxes r path e = cc
-without_is_none (fault.Limit s p) r path e = cc
-without_is_none fault.Theme r path e = cc
-without_is_none fault.File r path e = cc
-without_is_none fault.Highlighting r path e = cc
-without_is_none fault.Writing r path e = cc
+reason_without : (Told : Answer → Type 0) (folder file : List ℕ) (f : Fault) → HasReason Told folder file f → HasReason Told folder file (without_limit f)
+reason_without Told folder file fault.Syntaxes h = tt
+reason_without Told folder file (fault.Limit s p) h = tt
+reason_without Told folder file fault.Theme h = tt
+reason_without Told folder file fault.File h = h
+reason_without Told folder file fault.Highlighting h = tt
+reason_without Told folder file fault.Writing h = tt
 
 -- what is told of a fault is as true, and tells of writing where that is the fault
-pub told_of : (folder : List ℕ) (f told : Fault) → (told ≡ f) ⊎ (told ≡ without_limit f) → HasReason folder f → HasReason folder told
-told_of folder f told (inl e) h r path q = h r path (sym e ∙ q)
-told_of folder f told (inr e) h r path q = absurd (without_is_none f r path (sym e ∙ q))
+pub told_of : (Told : Answer → Type 0) (folder file : List ℕ) (f told : Fault) → (told ≡ f) ⊎ (told ≡ without_limit f) → HasReason Told folder file f → HasReason Told folder file told
+told_of Told folder file f told (inl e) h = subst (HasReason Told folder file) (sym e) h
+told_of Told folder file f told (inr e) h = subst (HasReason Told folder file) (sym e) (reason_without Told folder file f h)
 
 without_writing : (f : Fault) → without_limit f ≡ fault.Writing → f ≡ fault.Writing
 without_writing fault.Syntaxes e = absurd cc
@@ -183,26 +167,30 @@ pub writing_told : (f told : Fault) → (told ≡ f) ⊎ (told ≡ without_limit
 writing_told f told (inl e) w = e ∙ w
 writing_told f told (inr e) w = e ∙ writing_without f w
 
--- the words name the folder of the job
-pub reason_for : (words : List (List ℕ)) (job : Job) (f : Fault) → words ≡ words_of job → HasReason job.folder.now f → HasReasonFor words f
-reason_for words job f same h folder theme file format e =
+-- the words name the folder and the file of the job
+pub reason_for : (Told : Answer → Type 0) (words : List (List ℕ)) (job : Job) (f : Fault) → words ≡ words_of job → HasReason Told job.folder.now job.file.now f → HasReasonFor Told words f
+reason_for Told words job f same h folder theme file format e =
     let folders : job.folder.now ≡ folder = same_folder job.folder.now folder job.theme.now theme job.file.now file job.format format (sym same ∙ e) in
-    subst (λ (x : List ℕ). HasReason x f) folders h
+    let files : job.file.now ≡ file = same_file job.folder.now folder job.theme.now theme job.file.now file job.format format (sym same ∙ e) in
+    subst (λ (y : List ℕ). HasReason Told folder y f) files (subst (λ (x : List ℕ). HasReason Told x job.file.now f) folders h)
   where
     same_folder : (a b c d m n : List ℕ) (p q : Format) → words_for a c p m ≡ words_for b d q n → a ≡ b
     same_folder a b c d m n p q e = cc
 
+    same_file : (a b c d m n : List ℕ) (p q : Format) → words_for a c p m ≡ words_for b d q n → m ≡ n
+    same_file a b c d m n p q e = cc
+
 -- ---- the text of a job ----
 
-pub file_shown : LoadsPlain → (folder : List ℕ) (format : Format) (file text : List ℕ) (told : Option Note) (repository after : List (List ℕ)) (set : SyntaxSet) (theme : Theme) → IsSetOf folder repository set
-    → (bytes : List ℕ) × IsThemeOf repository bytes after theme → ((definitions : List SyntaxDefinition) → IsBuilt set definitions → ShowsFile format set theme file text told)
-    → IsShown folder format file text told
-file_shown law folder format file text told repository after set theme s t h =
-    let b = set_built law folder repository set s in
-    record { repository = repository; after = after; set = set; bytes = t.0; theme = theme; set_is = s; theme_is = t.1; shows = h b.0 b.1 }
+pub file_shown : LoadsPlain → (Told : Answer → Type 0) (folder path : List ℕ) (format : Format) (file text : List ℕ) (told : Option Note) (repository after : List (List ℕ)) (set : SyntaxSet) (theme : Theme) → IsSetOf Told folder repository set
+    → (bytes : List ℕ) × Told (has_bytes path bytes) × IsThemeOf repository bytes after theme → ((definitions : List SyntaxDefinition) → IsBuilt set definitions → ShowsFile Told format set theme file text told)
+    → IsShown Told folder path format file text told
+file_shown law Told folder path format file text told repository after set theme s t h =
+    let b = set_built law Told folder repository set s in
+    record { repository = repository; after = after; set = set; bytes = t.0; theme = theme; set_is = s; theme_read = t.1; theme_is = t.2; shows = h b.0 b.1 }
 
-pub asked_for : (words : List (List ℕ)) (job : Job) (text : List ℕ) (told : Option Note) → words ≡ words_of job → IsShown job.folder.now job.format job.file.now text told → IsAskedFor words text told
-asked_for words job text told e s = (job.folder.now, job.theme.now, job.file.now, job.format, e, s)
+pub asked_for : (Told : Answer → Type 0) (words : List (List ℕ)) (job : Job) (text : List ℕ) (told : Option Note) → words ≡ words_of job → IsShown Told job.folder.now job.theme.now job.format job.file.now text told → IsAskedFor Told words text told
+asked_for Told words job text told e s = (job.folder.now, job.theme.now, job.file.now, job.format, e, s)
 
 -- highlighting is not writing
 pub never_writing : (e : Error) → fault_of e ≡ fault.Writing → ⊥

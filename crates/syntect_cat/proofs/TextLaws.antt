@@ -1,37 +1,72 @@
 -- The text that shows a file, and what is reported of it.
-use Rattle.std.proofs.Common.{◌≡◌, ℕ, List, [], subst, IsUtf8}
+use Rattle.std.proofs.Common.{◌≡◌, ℕ, List, [], refl, subst, IsUtf8}
+use Rattle.std.specs.Io.KnownBytes.{Keeps}
 use Rattle.std.specs.Prelude.{Option, Some, None}
 use Rattle.syntect_cat.specs.syntect_base.Limiting.{usual}
+use Rattle.syntect_cat.specs.syntect_base.Trees.{Answer, opened}
 use Rattle.syntect_cat.specs.syntect_base.declared.limits.Limits.{Limits}
 use Rattle.syntect_cat.specs.syntect_theme.declared.theme.Theme.{Theme}
 use Rattle.syntect_cat.specs.syntect_grammar_contexts.declared.syntax_reference.SyntaxReference.{SyntaxReference}
+use Rattle.syntect_cat.specs.syntect_easy.Files.{IsFileFault, file_unread}
+use Rattle.syntect_cat.specs.syntect_grammar.declared.error.Error.{Error}
+use Rattle.syntect_cat.specs.syntect_grammar.declared.error.Error.TheVariants as error
 use Rattle.syntect_cat.specs.syntect_grammar.declared.syntax_set.SyntaxSet.{SyntaxSet}
 use Rattle.syntect_cat.specs.syntect_parsing.declared.within.LineLimit.{LineLimit}
-use Rattle.syntect_cat.specs.syntect_easy.Files.{IsSyntaxWithin}
+use Rattle.syntect_cat.specs.syntect_easy.Files.{HasNoLinesWithin, IsToldWithin}
+use Rattle.syntect_cat.specs.syntect_easy.Rows.{IsTextOf}
+use Rattle.syntect_cat.proofs.syntect_easy_proofs.FileLaws.{fault_within, text_kept}
 use Rattle.syntect_cat.specs.syntect_grammar_limits.declared.first_line_error.FirstLineLimit.{FirstLineLimit}
 use Rattle.syntect_cat.specs.Notes.{Tells, note_of}
 use Rattle.syntect_cat.specs.declared.note.Note.{Note}
 use Rattle.syntect_cat.specs.syntect_assets.Texts.{IsWritten}
-use Rattle.syntect_cat.specs.Texts.{ShowsFile, form_of}
+use Rattle.syntect_cat.specs.Texts.{IsFaultOfFile, ShowsFile, form_of}
 use Rattle.syntect_cat.specs.syntect_assets.declared.format.Format.{Format as Form}
 use Rattle.syntect_cat.specs.declared.job.Format.{Format}
 
 -- ---- files ----
 
-pub file_text : (limits : Limits) (form : Form) (format : Format) (set : SyntaxSet) (theme : Theme) (path all : List ℕ) (syntax : SyntaxReference) (limit : Option FirstLineLimit) (first : Option (ℕ × LineLimit)) (told : Option Note) (P : List ℕ → Type 0)
-    → limits ≡ usual → form ≡ form_of format → IsSyntaxWithin limits set path syntax limit → told ≡ note_of limit first → (text : List ℕ) × P text × IsUtf8 text × IsWritten limits form set theme syntax text all first
-    → ShowsFile format set theme path all told
-file_text limits form format set theme path all syntax limit first told P u f s n h = (
-  syntax,
-  limit,
-  subst (λ (l : Limits). IsSyntaxWithin l set path syntax limit) u s,
-  first,
-  n,
-  h.0,
-  h.2,
-  subst (λ (l : Limits). IsWritten l (form_of format) set theme syntax h.0 all first) u
-      (subst (λ (f : Form). IsWritten limits f set theme syntax h.0 all first) f h.3),
-)
+module _ (Told : Answer → Type 0) (limits : Limits) (set : SyntaxSet) (path : List ℕ) where
+  pub file_text : (form : Form) (format : Format) (theme : Theme) (all : List ℕ) (syntax : SyntaxReference) (limit : Option FirstLineLimit) (first : Option (ℕ × LineLimit)) (note : Option Note) (left seen : Option (List ℕ)) → Told (opened path left) → Keeps left seen
+      → limits ≡ usual → form ≡ form_of format → IsToldWithin limits set path left syntax limit → note ≡ note_of limit first → (text : List ℕ) × IsTextOf seen text × IsUtf8 text × IsWritten limits form set theme syntax text all first
+      → ShowsFile Told format set theme path all note
+  file_text form format theme all syntax limit first note left seen told kept u f s n h = record {
+    left = left;
+    told = told;
+    syntax = syntax;
+    limit = limit;
+    syntax_is = subst (λ (l : Limits). IsToldWithin l set path left syntax limit) u s;
+    first = first;
+    note_is = n;
+    text = h.0;
+    whole = text_kept left seen h.0 kept h.1;
+    utf8 = h.2;
+    written = subst (λ (l : Limits). IsWritten l (form_of format) set theme syntax h.0 all first) u (subst (λ (f : Form). IsWritten limits f set theme syntax h.0 all first) f h.3);
+  }
+
+  -- a file that wasn't opened, or not read then
+  pub not_opened : (e : Error) → HasNoLinesWithin (IsFileFault Told path) limits set path e → IsFaultOfFile Told path e
+  not_opened (error.Io x) h = fault_within (IsFileFault Told path) limits set path x (error.Io x) refl h
+  not_opened (error.LoadingError x) h = tt
+  not_opened (error.ParsingError x) h = tt
+  not_opened (error.ScopeError x) h = tt
+  not_opened (error.Fmt x) h = tt
+  not_opened error.NoSyntax h = tt
+  not_opened (error.ParseSyntax x) h = tt
+  not_opened (error.ParseScope x) h = tt
+  not_opened (error.Pattern x) h = tt
+  not_opened error.Memory h = tt
+
+  pub not_read_on : (left : Option (List ℕ)) → Told (opened path left) → (e : Error) → IsFaultOfFile Told path e
+  not_read_on left told (error.Io x) = file_unread {left = left} told
+  not_read_on left told (error.LoadingError x) = tt
+  not_read_on left told (error.ParsingError x) = tt
+  not_read_on left told (error.ScopeError x) = tt
+  not_read_on left told (error.Fmt x) = tt
+  not_read_on left told error.NoSyntax = tt
+  not_read_on left told (error.ParseSyntax x) = tt
+  not_read_on left told (error.ParseScope x) = tt
+  not_read_on left told (error.Pattern x) = tt
+  not_read_on left told error.Memory = tt
 
 -- ---- what is reported ----
 

@@ -10,6 +10,7 @@ ghost use Rattle.syntect_cat.specs.Written.{Begins};
 ghost use Rattle.syntect_cat.specs.declared.fault.Fault.{Fault as AFault};
 ghost use Rattle.syntect_cat.specs.declared.fault.Fault.TheVariants.{Writing};
 
+use crate::below::base::tree::Tree;
 use crate::fault::{Fault, USAGE};
 use crate::job::Job;
 use crate::note::{Note, tell_note};
@@ -17,7 +18,6 @@ use crate::put::put;
 use crate::show::text_for;
 use std::alloc::Global;
 use std::io::Write;
-use std::rt::Files;
 
 /// The status after wrong words.
 const WRONG_WORDS: u8 = 2;
@@ -38,8 +38,8 @@ const FAILED: u8 = 1;
 /// tells of it, and `out` nothing, but that a text may be begun where it can't be written. The line
 /// of a grammar that would pass a limit names its file and the limit, and of a pattern the context
 /// and the item. What can't be written to `err` changes nothing.
-pub fn run<W: Write, E: Write>(
-    files: &impl Files,
+pub fn run<T: Tree, W: Write, E: Write>(
+    tree: &T,
     alloc: Global,
     words: &[String],
     out: &mut W,
@@ -52,7 +52,7 @@ pub fn run<W: Write, E: Write>(
     // there is one
     ensures shown { result ≡ 0
         → (text : List ℕ) × (note : AnOption ANote)
-        × IsAskedFor (map string_bytes words.now) text note
+        × IsAskedFor (T.told tree.now) (map string_bytes words.now) text note
         × Appends (W.contents out.old) (W.contents out.new) text
         × (note ≡ None → err.new ≡ err.old)
         × ((n : ANote) → note ≡ Some n → Tells (E.contents err.old) (E.contents err.new) n) }
@@ -63,17 +63,17 @@ pub fn run<W: Write, E: Write>(
         → (out.new ≡ out.old) × Begins (E.contents err.old) (E.contents err.new) usage_line }
     ensures failed { result ≡ 1
         → (fault : AFault) × Begins (E.contents err.old) (E.contents err.new) (fault_line fault)
-        × HasReasonFor (map string_bytes words.now) fault
+        × HasReasonFor (T.told tree.now) (map string_bytes words.now) fault
         × (fault ≢ Writing → out.new ≡ out.old)
         × (fault ≡ Writing → (text : List ℕ) × (note : AnOption ANote)
-        × IsAskedFor (map string_bytes words.now) text note
+        × IsAskedFor (T.told tree.now) (map string_bytes words.now) text note
         × Begins (W.contents out.old) (W.contents out.new) text) }
 {
     let Some(job) = Job::from_words(words) else {
         let _ = put(err, USAGE.as_bytes());
         return WRONG_WORDS;
     };
-    match show(files, alloc, job, out) {
+    match show(tree, alloc, job, out) {
         Ok(None) => 0,
         Ok(Some(note)) => {
             tell_note(alloc, note, err);
@@ -98,23 +98,26 @@ fn tell<E: Write>(alloc: Global, fault: &Fault, err: &mut E)
 }
 
 /// Writes the text that a job asks for, and answers what is reported of limits that were reached.
-fn show<W: Write>(
-    files: &impl Files,
+fn show<T: Tree, W: Write>(
+    tree: &T,
     alloc: Global,
     job: Job<'_>,
     out: &mut W,
 ) -> Result<Option<Note>, Fault>
     ensures shown { IfOk result (λ note. (text : List ℕ)
-        × IsShown job.entry.folder.now job.entry.format job.entry.file.now text note
+        × IsShown (T.told tree.now) job.entry.folder.now job.entry.theme.now
+        job.entry.format job.entry.file.now text note
         × Appends (W.contents out.old) (W.contents out.new) text) }
-    ensures reason { IfErr result (HasReason job.entry.folder.now) }
+    ensures reason { IfErr result
+        (HasReason (T.told tree.now) job.entry.folder.now job.entry.file.now) }
     ensures kept { IfErr result (λ fault. fault ≢ Writing → out.new ≡ out.old) }
     ensures begun { IfErr result (λ fault. fault ≡ Writing
         → (text : List ℕ) × (note : AnOption ANote)
-        × IsShown job.entry.folder.now job.entry.format job.entry.file.now text note
+        × IsShown (T.told tree.now) job.entry.folder.now job.entry.theme.now
+        job.entry.format job.entry.file.now text note
         × Begins (W.contents out.old) (W.contents out.new) text) }
 {
-    let (text, note) = match text_for(files, alloc, job) {
+    let (text, note) = match text_for(tree, alloc, job) {
         Ok(shown) => shown,
         Err(fault) => return Err(fault),
     };

@@ -1,6 +1,7 @@
 -- Texts as HTML with inline styles, each line in a span of its own.
 use Rattle.std.specs.Prelude.{◌≡◌, ℕ, ◌+◌, List, [], ◌∷◌, ◌++◌, Option, Some, IsUtf8, string_bytes}
 use Rattle.std.specs.Borrow.{Bor}
+use Rattle.syntect_documents.specs.syntect_base.Trees.{Answer, opened}
 use Rattle.syntect_documents.specs.syntect_base.declared.limits.Limits.{Limits}
 use Rattle.syntect_documents.specs.syntect_grammar_contexts.declared.syntax_reference.SyntaxReference.{SyntaxReference}
 use Rattle.syntect_documents.specs.syntect_grammar.declared.syntax_set.SyntaxSet.{SyntaxSet}
@@ -11,8 +12,9 @@ use Rattle.syntect_documents.specs.syntect_writers.Classes.{closing_tag}
 use Rattle.syntect_documents.specs.syntect_writers.Spans.{line_text, opening, closing, background_of}
 use Rattle.syntect_documents.specs.syntect_writers.declared.html.IncludeBackground.{IncludeBackground}
 use Rattle.syntect_documents.specs.syntect_writers.declared.html.IncludeBackground.TheVariants.{IfDifferent}
-use Rattle.syntect_documents.specs.syntect_easy.Files.{IsSyntaxWithin}
+use Rattle.syntect_documents.specs.syntect_easy.Files.{IsToldWithin}
 use Rattle.syntect_documents.specs.syntect_easy.PlainLines.{AreLinesOf, Shown, first_plain, pieces_in}
+use Rattle.syntect_documents.specs.syntect_easy.Rows.{IsTextOf}
 use Rattle.syntect_documents.specs.syntect_assets.Assets.{language_named}
 use Rattle.syntect_documents.specs.syntect_assets.declared.assets.Assets.{Assets}
 use Rattle.syntect_documents.specs.syntect_assets.declared.assets.Shown.{Shown as ShownText}
@@ -57,11 +59,15 @@ pub record NumbersText (assets : Assets) (text name : List ℕ) (theme : Theme) 
   pub named : language_named assets name ≡ Some syntax
   pub shows : NumbersIn assets text syntax theme form shown
 
--- the text shows what some file holds, in the syntax of its path or first line, or as plain text
-pub record NumbersFile (assets : Assets) (path : List ℕ) (theme : Theme) (form : LineForm)
-    (shown : ShownText) : Type 0 where
+-- the text shows what the file holds that was opened at the path, in the syntax of its path or of
+-- what it had ahead, or as plain text
+pub record NumbersFile (Told : Answer → Type 0) (assets : Assets) (path : List ℕ)
+    (theme : Theme) (form : LineForm) (shown : ShownText) : Type 0 where
+  pub left : Option (List ℕ)
+  pub told : Told (opened path left)
   pub syntax : SyntaxReference
+  pub syntax_is : IsToldWithin assets.limits assets.set path left syntax shown.first_line
   pub text : List ℕ
-  pub syntax_is : IsSyntaxWithin assets.limits assets.set path syntax shown.first_line
+  pub whole : IsTextOf left text
   pub utf8 : IsUtf8 text
   pub shows : NumbersIn assets text syntax theme form shown

@@ -6,13 +6,15 @@ ghost use Rattle.syntect_documents.specs.syntect_grammar_contexts.declared.synta
 ghost use Rattle.syntect_documents.specs.syntect_easy.Built.{IsBuilt, IsSyntaxOfBuilt};
 ghost use Rattle.syntect_documents.specs.syntect_easy.Leads.{Leads};
 ghost use Rattle.syntect_documents.specs.syntect_easy.Rows.{IsTextOf};
-ghost use Rattle.syntect_documents.specs.syntect_assets.Assets.{RefusesFile, RefusesLine, RefusesText, language_named};
+ghost use Rattle.syntect_documents.specs.syntect_assets.Assets.{RefusesLine, RefusesText, language_named};
+ghost use Rattle.syntect_documents.specs.syntect_assets.Refusals.{RefusesReading, TellsFile};
 ghost use Rattle.syntect_documents.specs.Numbered.{IsNumbered, NumbersFile, NumbersIn, NumbersText, numbered_line};
 
 use crate::below::assets::assets::{Assets, Shown};
 use crate::below::assets::error::AssetsError;
 use crate::below::assets::lines::{PlainLine, first_of};
 use crate::below::base::limits::Limits;
+use crate::below::base::tree::Tree;
 use crate::below::easy::Error;
 use crate::below::easy::easy::{HighlightFile, HighlightLines};
 use crate::below::easy::html::{IncludeBackground, SpanWriter, start_highlighted_html_snippet};
@@ -25,7 +27,6 @@ use crate::lines::{LineForm, push_line_tag};
 use std::alloc::{AllocError, Global};
 use std::io::{BufRead, Error as IoError, ErrorKind};
 use std::path::Path;
-use std::rt::Files;
 
 /// What ends a line.
 const LINE_END: &str = "</span>";
@@ -145,7 +146,7 @@ pub fn numbered_text(
 
 /// Why a file isn't shown: that it isn't read comes with its path.
 fn refused_file(alloc: Global, path: Path<'_>, e: Error) -> Result<AssetsError, AllocError>
-    ensures { IfOk result RefusesFile }
+    ensures { IfOk result (TellsFile e) }
 {
     match e {
         Error::Io(e) => {
@@ -162,22 +163,22 @@ fn refused_file(alloc: Global, path: Path<'_>, e: Error) -> Result<AssetsError, 
 /// `NotRead` with the path where the file isn't read or isn't UTF-8, and where the numbers of lines
 /// come to 2^64 - 1; `NotShown` with the line's refusal, or with `NoSyntax` where no syntax fits
 /// and there is no plain text.
-pub fn numbered_file(
+pub fn numbered_file<T: Tree>(
     assets: &Assets,
-    files: &impl Files,
+    tree: &T,
     alloc: Global,
     path: Path<'_>,
     theme: &Theme,
     form: LineForm<'_>,
 ) -> Result<Shown, AssetsError>
-    // the set was built of plain definitions; of what the file holds nothing is known but that
-    // this shows it
+    // the set was built of plain definitions
     ensures shown { (definitions : List ADefinition) → IsBuilt assets.now.set definitions
-        → IfOk result (NumbersFile assets.now (path_bytes path.entry) theme.now form.entry) }
-    ensures refused { IfErr result RefusesFile }
+        → IfOk result (NumbersFile (T.told tree.now) assets.now (path_bytes path.entry)
+        theme.now form.entry) }
+    ensures refused { IfErr result (RefusesReading (T.told tree.now) (path_bytes path.entry)) }
 {
     let limits = &assets.limits;
-    let opened = HighlightFile::new_or_plain(files, alloc, path, &assets.set, theme, limits);
+    let opened = HighlightFile::new_or_plain(tree, alloc, path, &assets.set, theme, limits);
     let (file, first_line) = match opened {
         Ok(opened) => opened,
         Err(e) => return Err(refused_file(alloc, path, e)?),

@@ -22,7 +22,15 @@ use Rattle.syntect_grammar_limits.specs.FirstLines.{ReachesSteps}
 use Rattle.syntect_grammar_limits.specs.declared.first_line_error.FindWithinError.{FindWithinError}
 use Rattle.syntect_grammar_limits.specs.declared.first_line_error.FindWithinError.TheVariants.{Refused, LimitReached}
 use Rattle.syntect_grammar_limits.specs.declared.first_line_error.FirstLineLimit.{FirstLineLimit}
-use Rattle.syntect_easy.specs.Files.{IsSyntaxFor, IsSyntaxWithin, IsPlainInstead, IsToldSyntax, IsToldWithin, IsFirstOf, IsAskedOf, HasNoLines, HasNoLinesWithin, LacksInstead, IsPageOfFile, HasNoPageOfFile}
+use Rattle.std.specs.IoError.{error_kind}
+use Rattle.std.specs.Io.KnownBytes.{Keeps}
+use Rattle.std.specs.declared.io.Error.{Error as IoError}
+use Rattle.std.specs.declared.io.ErrorKind.{ErrorKind}
+use Rattle.std.specs.declared.io.ErrorKind.TheVariants.{OutOfMemory}
+use Rattle.syntect_easy.specs.syntect_base.Trees.{Answer, opened}
+use Rattle.syntect_easy.specs.syntect_grammar.Passing.{from_kind, from_io}
+use Rattle.syntect_easy.specs.Rows.{IsTextOf}
+use Rattle.syntect_easy.specs.Files.{IsTextOfFile, IsSyntaxFor, IsSyntaxWithin, IsPlainInstead, IsToldSyntax, IsToldWithin, IsFirstOf, IsAskedOf, HasNoLines, HasNoLinesWithin, LacksInstead, IsPageOfFile, HasNoPageOfFile}
 use Rattle.syntect_easy.specs.Leads.{LacksStart}
 use Rattle.syntect_easy.specs.Pages.{IsPageOfBytes, IsStopped, IsReadFault}
 
@@ -104,8 +112,8 @@ none_told set path line e f = f ∙ ap (λ found. option_or found (found_by_firs
 pub plain_syntax : (set : SyntaxSet) (path line : List ℕ) (syntax : SyntaxReference) → IsUtf8 line → None ≡ found_by_file_name set path → None ≡ found_by_first_line set line → Some syntax ≡ found_plain_text set → IsSyntaxFor set path syntax
 plain_syntax set path line syntax u n e f = is_syntax set path line syntax u (ap (λ found. option_or found (found_plain_text set)) (sym (none_told set path line n e)) ∙ sym f)
 
-pub no_syntax : (set : SyntaxSet) (path line : List ℕ) → IsUtf8 line → None ≡ found_by_file_name set path → None ≡ found_by_first_line set line → None ≡ found_plain_text set → HasNoLines set path error.NoSyntax
-no_syntax set path line u n e f = (line, u, ap (λ found. option_or found (found_plain_text set)) (sym (none_told set path line n e)) ∙ sym f)
+pub no_syntax : (Faults : IoError → Type 0) (set : SyntaxSet) (path line : List ℕ) → IsUtf8 line → None ≡ found_by_file_name set path → None ≡ found_by_first_line set line → None ≡ found_plain_text set → HasNoLines Faults set path error.NoSyntax
+no_syntax Faults set path line u n e f = (line, u, ap (λ found. option_or found (found_plain_text set)) (sym (none_told set path line n e)) ∙ sym f)
 
 -- ---- what the first line that is left tells ----
 
@@ -139,29 +147,50 @@ module _ (set : SyntaxSet) (path : List ℕ) (left : Option (List ℕ)) (syntax 
 
 -- ---- no lines ----
 
-pub not_read : (set : SyntaxSet) (path : List ℕ) (e : Error) → IsReadFault e → HasNoLines set path e
-not_read set path (error.Io e) n = tt
-not_read set path error.Memory n = tt
-not_read set path (error.ParsingError e) n = absurd n
-not_read set path (error.ScopeError e) n = absurd n
-not_read set path (error.LoadingError e) n = absurd n
-not_read set path (error.Fmt e) n = absurd n
-not_read set path error.NoSyntax n = absurd n
-not_read set path (error.ParseSyntax e) n = absurd n
-not_read set path (error.ParseScope e) n = absurd n
-not_read set path (error.Pattern e) n = absurd n
+pub not_read : (Faults : IoError → Type 0) → ((e : IoError) → Faults e) → (set : SyntaxSet) (path : List ℕ) (e : Error) → IsReadFault e → HasNoLines Faults set path e
+not_read Faults any set path (error.Io e) n = any e
+not_read Faults any set path error.Memory n = tt
+not_read Faults any set path (error.ParsingError e) n = absurd n
+not_read Faults any set path (error.ScopeError e) n = absurd n
+not_read Faults any set path (error.LoadingError e) n = absurd n
+not_read Faults any set path (error.Fmt e) n = absurd n
+not_read Faults any set path error.NoSyntax n = absurd n
+not_read Faults any set path (error.ParseSyntax e) n = absurd n
+not_read Faults any set path (error.ParseScope e) n = absurd n
+not_read Faults any set path (error.Pattern e) n = absurd n
 
-pub no_start_for : (set : SyntaxSet) (path : List ℕ) (syntax : SyntaxReference) (e : Error) → IsSyntaxFor set path syntax → LacksStart syntax e → HasNoLines set path e
-no_start_for set path syntax (error.Io e) s l = tt
-no_start_for set path syntax error.Memory s l = tt
-no_start_for set path syntax (error.ParsingError e) s l = (syntax, s, l)
-no_start_for set path syntax (error.ScopeError e) s l = absurd l
-no_start_for set path syntax (error.LoadingError e) s l = absurd l
-no_start_for set path syntax (error.Fmt e) s l = absurd l
-no_start_for set path syntax error.NoSyntax s l = absurd l
-no_start_for set path syntax (error.ParseSyntax e) s l = absurd l
-no_start_for set path syntax (error.ParseScope e) s l = absurd l
-no_start_for set path syntax (error.Pattern e) s l = absurd l
+pub no_start_for : (Faults : IoError → Type 0) → ((e : IoError) → Faults e) → (set : SyntaxSet) (path : List ℕ) (syntax : SyntaxReference) (e : Error) → IsSyntaxFor set path syntax → LacksStart syntax e → HasNoLines Faults set path e
+no_start_for Faults any set path syntax (error.Io e) s l = any e
+no_start_for Faults any set path syntax error.Memory s l = tt
+no_start_for Faults any set path syntax (error.ParsingError e) s l = (syntax, s, l)
+no_start_for Faults any set path syntax (error.ScopeError e) s l = absurd l
+no_start_for Faults any set path syntax (error.LoadingError e) s l = absurd l
+no_start_for Faults any set path syntax (error.Fmt e) s l = absurd l
+no_start_for Faults any set path syntax error.NoSyntax s l = absurd l
+no_start_for Faults any set path syntax (error.ParseSyntax e) s l = absurd l
+no_start_for Faults any set path syntax (error.ParseScope e) s l = absurd l
+no_start_for Faults any set path syntax (error.Pattern e) s l = absurd l
+
+-- the faults of a file that was opened are faults of the file
+pub faults_in : (Faults Others : IoError → Type 0) → ((e : IoError) → Others e) → (set : SyntaxSet) (path : List ℕ) (e : Error) → HasNoLines Faults set path e → HasNoLines Others set path e
+faults_in Faults Others any set path (error.Io e) h = any e
+faults_in Faults Others any set path error.Memory h = h
+faults_in Faults Others any set path (error.ParsingError e) h = h
+faults_in Faults Others any set path (error.ScopeError e) h = h
+faults_in Faults Others any set path (error.LoadingError e) h = h
+faults_in Faults Others any set path (error.Fmt e) h = h
+faults_in Faults Others any set path error.NoSyntax h = h
+faults_in Faults Others any set path (error.ParseSyntax e) h = h
+faults_in Faults Others any set path (error.ParseScope e) h = h
+faults_in Faults Others any set path (error.Pattern e) h = h
+
+faults_of_kind : (Faults : IoError → Type 0) (set : SyntaxSet) (path : List ℕ) (kind : ErrorKind) (e : IoError) → Faults e → HasNoLines Faults set path (from_kind kind e)
+faults_of_kind Faults set path OutOfMemory e h = tt
+faults_of_kind Faults set path kind e h = h
+
+-- one fault of a file
+pub one_fault : (Faults : IoError → Type 0) (set : SyntaxSet) (path : List ℕ) (e : IoError) (r : Error) → r ≡ from_io e → Faults e → HasNoLines Faults set path r
+one_fault Faults set path e r q h = subst (HasNoLines Faults set path) (sym q) (faults_of_kind Faults set path (error_kind e) e h)
 
 -- ---- first lines within limits ----
 
@@ -187,23 +216,37 @@ pub syntax_unlimited : (limits : Limits) (set : SyntaxSet) (path : List ℕ) (sy
 syntax_unlimited limits set path syntax None e h = h
 syntax_unlimited limits set path syntax (Some l) e h = absurd (none_reached limits e h.limited)
 
-pub refused_unlimited : (limits : Limits) (set : SyntaxSet) (path : List ℕ) (e : Error) → limits ≡ unlimited → HasNoLinesWithin limits set path e → HasNoLines set path e
-refused_unlimited limits set path e same (inl h) = h
-refused_unlimited limits set path e same (inr h) = absurd (none_reached limits same h.limited)
+pub refused_unlimited : (Faults : IoError → Type 0) (limits : Limits) (set : SyntaxSet) (path : List ℕ) (e : Error) → limits ≡ unlimited → HasNoLinesWithin Faults limits set path e → HasNoLines Faults set path e
+refused_unlimited Faults limits set path e same (inl h) = h
+refused_unlimited Faults limits set path e same (inr h) = absurd (none_reached limits same h.limited)
 
 pub told_is_for : (limits : Limits) (set : SyntaxSet) (path : List ℕ) (left : Option (List ℕ)) (syntax : SyntaxReference) (o : Option FirstLineLimit) → IsToldWithin limits set path left syntax o → IsSyntaxWithin limits set path syntax o
 told_is_for limits set path left syntax None h = h.is_for
 told_is_for limits set path left syntax (Some l) h = h
 
-pub not_read_within : (limits : Limits) (set : SyntaxSet) (path : List ℕ) (e : Error) → IsReadFault e → HasNoLinesWithin limits set path e
-not_read_within limits set path e n = inl (not_read set path e n)
+-- a fault of a file that was opened, or lack of memory
+pub not_read_within : (limits : Limits) (set : SyntaxSet) (path : List ℕ) (e : Error) → IsReadFault e → HasNoLinesWithin (λ _. Unit {0}) limits set path e
+not_read_within limits set path e n = inl (not_read (λ _. Unit {0}) (λ x. tt) set path e n)
 
-pub no_plain_within : (limits : Limits) (set : SyntaxSet) (path : List ℕ) (e : Error) → limit_of limits.steps ≢ None → None ≡ found_by_file_name set path → None ≡ found_plain_text set → e ≡ error.NoSyntax → HasNoLinesWithin limits set path e
-no_plain_within limits set path e n f g same = inr (record { limited = n; unnamed = sym f; lacks = inl (sym g, same) })
+pub no_plain_within : (Faults : IoError → Type 0) (limits : Limits) (set : SyntaxSet) (path : List ℕ) (e : Error) → limit_of limits.steps ≢ None → None ≡ found_by_file_name set path → None ≡ found_plain_text set → e ≡ error.NoSyntax → HasNoLinesWithin Faults limits set path e
+no_plain_within Faults limits set path e n f g same = inr (record { limited = n; unnamed = sym f; lacks = inl (sym g, same) })
 
-pub no_start_within : (limits : Limits) (set : SyntaxSet) (path : List ℕ) (syntax : SyntaxReference) (o : Option FirstLineLimit) (e : Error) → IsSyntaxWithin limits set path syntax o → LacksStart syntax e → HasNoLinesWithin limits set path e
-no_start_within limits set path syntax None e s l = inl (no_start_for set path syntax e s l)
-no_start_within limits set path syntax (Some x) e s l = inr (record { limited = s.limited; unnamed = s.unnamed; lacks = inr (syntax, s.plain, l) })
+pub no_start_within : (Faults : IoError → Type 0) → ((e : IoError) → Faults e) → (limits : Limits) (set : SyntaxSet) (path : List ℕ) (syntax : SyntaxReference) (o : Option FirstLineLimit) (e : Error) → IsSyntaxWithin limits set path syntax o → LacksStart syntax e → HasNoLinesWithin Faults limits set path e
+no_start_within Faults any limits set path syntax None e s l = inl (no_start_for Faults any set path syntax e s l)
+no_start_within Faults any limits set path syntax (Some x) e s l = inr (record { limited = s.limited; unnamed = s.unnamed; lacks = inr (syntax, s.plain, l) })
+
+pub faults_within : (Faults Others : IoError → Type 0) → ((e : IoError) → Others e) → (limits : Limits) (set : SyntaxSet) (path : List ℕ) (e : Error) → HasNoLinesWithin Faults limits set path e → HasNoLinesWithin Others limits set path e
+faults_within Faults Others any limits set path e (inl h) = inl (faults_in Faults Others any set path e h)
+faults_within Faults Others any limits set path e (inr h) = inr h
+
+-- a fault that is passed on is one of the file
+pub fault_within : (Faults : IoError → Type 0) (limits : Limits) (set : SyntaxSet) (path : List ℕ) (x : IoError) (e : Error) → e ≡ error.Io x → HasNoLinesWithin Faults limits set path e → Faults x
+fault_within Faults limits set path x e q (inl h) = subst (HasNoLines Faults set path) q h
+fault_within Faults limits set path x e q (inr h) =
+    elim h.lacks [
+      | inl p ↦ absurd (let z : error.NoSyntax ≡ error.Io x = sym p.1 ∙ q in cc)
+      | inr p ↦ absurd (subst (LacksStart p.0) q p.2)
+    ]
 
 -- ---- pages ----
 
@@ -214,12 +257,25 @@ pub built_within : (limits : Limits) (set : SyntaxSet) (path : List ℕ) (syntax
 built_within limits set path syntax None definitions b s = built_of set path syntax definitions b s
 built_within limits set path syntax (Some l) definitions b s = record { links = b.links; place = s.place; among = s.among; plain = b.plain }
 
-pub page_of_file : {A : Type 0} (view : A → List ℕ) (set : SyntaxSet) (theme : Theme) (path : List ℕ) (syntax : SyntaxReference) (P : List ℕ → Type 0) (result : Result A Error) → IsSyntaxFor set path syntax
-    → IfOk result (λ page. (text : List ℕ) × P text × IsPageOfBytes set theme syntax text (view page)) → IfOk result (λ page. IsPageOfFile set theme path (view page))
-page_of_file view set theme path syntax P (Ok page) s h = (syntax, s, h.0, h.2)
-page_of_file view set theme path syntax P (Err e) s h = tt
+pub built_told : (limits : Limits) (set : SyntaxSet) (path : List ℕ) (left : Option (List ℕ)) (syntax : SyntaxReference) (o : Option FirstLineLimit) (definitions : List SyntaxDefinition) → IsBuilt set definitions → IsToldWithin limits set path left syntax o → IsSyntaxOfBuilt set syntax definitions
+built_told limits set path left syntax o definitions b t = built_within limits set path syntax o definitions b (told_is_for limits set path left syntax o t)
 
-pub no_page_of_file : {A : Type 0} (set : SyntaxSet) (path : List ℕ) (syntax : SyntaxReference) (P : List ℕ → Type 0) (result : Result A Error) → IsSyntaxFor set path syntax
-    → IfErr result (λ e. (text : List ℕ) × P text × IsStopped set syntax text e) → IfErr result (HasNoPageOfFile set path)
-no_page_of_file set path syntax P (Ok page) s h = tt
-no_page_of_file set path syntax P (Err e) s h = inr (syntax, s, h.0, h.2)
+-- the text of a reader is that of what its file had
+pub text_kept : (left seen : Option (List ℕ)) (text : List ℕ) → Keeps left seen → IsTextOf seen text → IsTextOf left text
+text_kept None seen text k t = tt
+text_kept (Some xs) None text k t = absurd k
+text_kept (Some xs) (Some ys) text k t = t ∙ k
+
+module _ (Told : Answer → Type 0) (set : SyntaxSet) (path : List ℕ) (syntax : SyntaxReference) (left seen : Option (List ℕ)) (told : Told (opened path left)) (kept : Keeps left seen) (by : IsToldSyntax set path left syntax) where
+  text_of_file : (text : List ℕ) → IsTextOf seen text → IsTextOfFile Told set path syntax text
+  text_of_file text t = record { left = left; told = told; told_by = by; whole = text_kept left seen text kept t }
+
+  pub page_of_file : {A : Type 0} (view : A → List ℕ) (theme : Theme) (result : Result A Error)
+      → IfOk result (λ page. (text : List ℕ) × IsTextOf seen text × IsPageOfBytes set theme syntax text (view page)) → IfOk result (λ page. IsPageOfFile Told set theme path (view page))
+  page_of_file view theme (Ok page) h = (syntax, h.0, text_of_file h.0 h.1, h.2)
+  page_of_file view theme (Err e) h = tt
+
+  pub no_page_of_file : {A : Type 0} (result : Result A Error)
+      → IfErr result (λ e. (text : List ℕ) × IsTextOf seen text × IsStopped set syntax text e) → IfErr result (HasNoPageOfFile Told set path)
+  no_page_of_file (Ok page) h = tt
+  no_page_of_file (Err e) h = inr (syntax, h.0, text_of_file h.0 h.1, h.2)

@@ -9,6 +9,7 @@ use Rattle.std.specs.Str.{str_eq_ignore_ascii_case}
 use Rattle.syntect_grammar_limits.proofs.FolderLaws.{added_within, without_limits}
 use Rattle.syntect_grammar_limits.specs.WhatLoads as what_loads
 use Rattle.syntect_grammar_limits.specs.declared.lenient.PassedOver.{PassedOver}
+use Rattle.syntect_easy.specs.syntect_base.Trees.{Answer}
 use Rattle.syntect_easy.specs.syntect_base.declared.limits.Limits.{Limits}
 use Rattle.syntect_easy.specs.syntect_grammar.Finding.{found_by_name, found_by_extension, found_by_token, found_by_file_name, found_by_first_line, last_fitting, has_extension, fits_line, without_mark}
 use Rattle.syntect_easy.specs.syntect_grammar.Folders.{AddsSyntaxes, AddsFolder, AddsMetadata, entry_added, passed_over, no_more, other, grammar, metadata}
@@ -20,7 +21,7 @@ use Rattle.syntect_easy.specs.syntect_grammar_contexts.declared.syntax_reference
 use Rattle.syntect_easy.specs.syntect_grammar.declared.syntax_set.SyntaxSet.{SyntaxSet}
 use Rattle.syntect_easy.specs.syntect_grammar.declared.syntax_set.SyntaxSetBuilder.{SyntaxSetBuilder}
 use Rattle.syntect_easy.specs.Built.{IsLoaded, IsPlain, IsSyntaxOfBuilt}
-use Rattle.syntect_easy.specs.Loaded.{HoldsLoaded, IsOfLoaded, IsOneOf, BuildersHold, FindsOwn}
+use Rattle.syntect_easy.specs.Loaded.{HoldsLoaded, IsOfLoaded, IsOneOf, BuildersHold, FoldersHold, FindsOwn}
 use Rattle.syntect_easy.proofs.FileLaws.{place_found, either_found}
 
 -- ---- builders ----
@@ -37,35 +38,39 @@ holds_more : (old new : SyntaxSetBuilder) (d : SyntaxDefinition) → HoldsLoaded
 holds_more old new d h l e = subst (All IsLoaded) (sym e) (one_more (definitions_in old) d h l)
 
 -- metadata leaves the definitions
-holds_entry : (path : List ℕ) (old new : SyntaxSetBuilder) → HoldsLoaded old → AddsMetadata path old new → HoldsLoaded new
-holds_entry path old _ h (entry_added e) = h
-holds_entry path old _ h (passed_over e n) = h
+holds_entry : (Told : Answer → Type 0) (path : List ℕ) (old new : SyntaxSetBuilder) → HoldsLoaded old → AddsMetadata Told path old new → HoldsLoaded new
+holds_entry Told path old _ h (entry_added t e) = h
+holds_entry Told path old _ h (passed_over e n) = h
 
-holds_files : (newlines : Bool) (files before after : List (List ℕ)) (builder all : SyntaxSetBuilder) → HoldsLoaded builder → AddsSyntaxes newlines files before builder after all → HoldsLoaded all
-holds_files newlines _ _ _ _ _ h no_more = h
-holds_files newlines _ _ _ _ _ h (other e f a) = holds_files newlines _ _ _ _ _ h a
-holds_files newlines _ _ _ builder _ h (grammar {d = d} e l a) =
-    holds_files newlines _ _ _ _ _ (one_more (definitions_in builder) d h (loaded_as _ _ _ _ _ _ l.loads)) a
-holds_files newlines _ _ _ builder _ h (metadata {path = path} {next = next} e m a) = holds_files newlines _ _ _ _ _ (holds_entry path builder next h m) a
+holds_files : (Told : Answer → Type 0) (newlines : Bool) (files before after : List (List ℕ)) (builder all : SyntaxSetBuilder) → HoldsLoaded builder → AddsSyntaxes Told newlines files before builder after all → HoldsLoaded all
+holds_files Told newlines _ _ _ _ _ h no_more = h
+holds_files Told newlines _ _ _ _ _ h (other e f a) = holds_files Told newlines _ _ _ _ _ h a
+holds_files Told newlines _ _ _ builder _ h (grammar {d = d} e t l a) =
+    holds_files Told newlines _ _ _ _ _ (one_more (definitions_in builder) d h (loaded_as _ _ _ _ _ _ l.loads)) a
+holds_files Told newlines _ _ _ builder _ h (metadata {path = path} {next = next} e m a) = holds_files Told newlines _ _ _ _ _ (holds_entry Told path builder next h m) a
 
-holds_what_loads : (limits : Limits) (newlines : Bool) (room rest : ℕ) (files before after : List (List ℕ)) (builder all : SyntaxSetBuilder) (passed : List PassedOver)
-    → HoldsLoaded builder → what_loads.AddsWhatLoads limits newlines room files before builder passed rest after all → HoldsLoaded all
-holds_what_loads limits newlines _ _ _ _ _ _ _ _ h what_loads.no_more = h
-holds_what_loads limits newlines _ _ _ _ _ _ _ _ h (what_loads.added a more) =
-    holds_what_loads limits newlines _ _ _ _ _ _ _ _ (holds_files newlines _ _ _ _ _ h (without_limits limits newlines a)) more
-holds_what_loads limits newlines _ _ _ _ _ _ _ _ h (what_loads.passed_over s n k more) = holds_what_loads limits newlines _ _ _ _ _ _ _ _ h more
+holds_what_loads : (Told : Answer → Type 0) (limits : Limits) (newlines : Bool) (room rest : ℕ) (files before after : List (List ℕ)) (builder all : SyntaxSetBuilder) (passed : List PassedOver)
+    → HoldsLoaded builder → what_loads.AddsWhatLoads Told limits newlines room files before builder passed rest after all → HoldsLoaded all
+holds_what_loads Told limits newlines _ _ _ _ _ _ _ _ h what_loads.no_more = h
+holds_what_loads Told limits newlines _ _ _ _ _ _ _ _ h (what_loads.added a more) =
+    holds_what_loads Told limits newlines _ _ _ _ _ _ _ _ (holds_files Told newlines _ _ _ _ _ h (without_limits Told limits newlines a)) more
+holds_what_loads Told limits newlines _ _ _ _ _ _ _ _ h (what_loads.passed_over s n k more) = holds_what_loads Told limits newlines _ _ _ _ _ _ _ _ h more
 
 pub builders_hold : BuildersHold
 builders_hold = record {
   nothing = λ builder e. subst (All IsLoaded) (sym e) (All-nil IsLoaded);
   one = λ old new text newlines fallback repository left d h l e. holds_more old new d h (loaded_as text newlines fallback repository left d l) e;
   plain_text = λ old new before after h a. holds_more old new a.definition h (loaded_as _ _ _ _ _ _ a.loads) a.definitions;
-  folder = λ newlines path before after old new h a. holds_files newlines a.files before after old new h a.adds;
-  folder_within = λ limits newlines path before after old new h a.
-      let b = added_within limits newlines path before old after new a in
-      holds_files newlines b.files before after old new h b.adds;
-  what_loads = λ limits newlines path before after old new passed h a. holds_what_loads limits newlines limits.folder a.rest a.files before after old new passed h a.adds;
   built = λ builder set h e. (definitions_in builder, e, h);
+}
+
+pub folders_hold : (Told : Answer → Type 0) → FoldersHold Told
+folders_hold Told = record {
+  folder = λ newlines path before after old new h a. holds_files Told newlines a.files before after old new h a.adds;
+  folder_within = λ limits newlines path before after old new h a.
+      let b = added_within Told limits newlines path before old after new a in
+      holds_files Told newlines b.files before after old new h b.adds;
+  what_loads = λ limits newlines path before after old new passed h a. holds_what_loads Told limits newlines limits.folder a.rest a.files before after old new passed h a.adds;
 }
 
 -- ---- what is found ----

@@ -1,4 +1,4 @@
--- What is shown of a file. Of what a file holds nothing is known.
+-- What is shown of a file, by what calls on its tree told.
 use Rattle.std.specs.Prelude.{◌≡◌, ◌≢◌, ◌<◌, ◌+◌, ℕ, List, [], length, Option, Some, None, IfSome, IsUtf8, slice_get, ◌⊎◌}
 use Rattle.std.specs.Io.{StartsWith}
 use Rattle.std.specs.Io.BufRead.{take_through}
@@ -7,6 +7,8 @@ use Rattle.syntect_easy.specs.syntect_base.Limiting.{limit_of}
 use Rattle.syntect_easy.specs.syntect_base.declared.limits.Limits.{Limits}
 use Rattle.syntect_grammar_limits.specs.declared.first_line_error.FirstLineLimit.{FirstLineLimit}
 use Rattle.syntect_easy.specs.syntect_theme.declared.theme.Theme.{Theme}
+use Rattle.std.specs.declared.io.Error.{Error as IoError}
+use Rattle.syntect_easy.specs.syntect_base.Trees.{Answer, opened, not_opened}
 use Rattle.syntect_easy.specs.syntect_grammar.Finding.{found_for_file, found_by_file_name, found_plain_text}
 use Rattle.syntect_easy.specs.syntect_grammar.Link.{syntaxes_in}
 use Rattle.syntect_easy.specs.syntect_grammar_contexts.declared.syntax_reference.SyntaxReference.{SyntaxReference}
@@ -15,6 +17,7 @@ use Rattle.syntect_easy.specs.syntect_grammar.declared.error.Error.{Error}
 use Rattle.syntect_easy.specs.syntect_grammar.declared.error.Error.TheVariants as error
 use Rattle.syntect_easy.specs.Leads.{LacksStart, OnlyParsing}
 use Rattle.syntect_easy.specs.Pages.{IsPageOfBytes, IsStopped}
+use Rattle.syntect_easy.specs.Rows.{IsTextOf}
 
 -- the syntax of the set that the path of a file tells, or else its first line, or else that of
 -- plain text
@@ -70,14 +73,20 @@ abbrev pub IsToldWithin : Limits → SyntaxSet → List ℕ → Option (List ℕ
 IsToldWithin limits set path left syntax None = IsToldSyntax set path left syntax
 IsToldWithin limits set path left syntax (Some limit) = IsPlainInstead limits set path syntax
 
+-- a fault of a file that is read line by line: it was not opened, for this fault; or it was, and
+-- then a line was not read, or is no text
+pub data IsFileFault (Told : Answer → Type 0) (path : List ℕ) (e : IoError) : Type 0 where
+  file_unopened : Told (not_opened path e) → IsFileFault Told path e
+  file_unread : {left : Option (List ℕ)} → Told (opened path left) → IsFileFault Told path e
+
 -- no line of a file is read: no syntax is there for it, or the syntax has no `__start`, or the file
--- is not read, or there was no memory
-abbrev pub HasNoLines : SyntaxSet → List ℕ → Error → Type 0
-HasNoLines set path error.NoSyntax =
+-- is not read, for one of these faults, or there was no memory
+abbrev pub HasNoLines : (Faults : IoError → Type 0) → SyntaxSet → List ℕ → Error → Type 0
+HasNoLines Faults set path error.NoSyntax =
     (line : List ℕ) × IsUtf8 line
     × (option_or (found_for_file set path line) (found_plain_text set) ≡ None)
-HasNoLines set path (error.Io e) = Unit {0}
-HasNoLines set path e =
+HasNoLines Faults set path (error.Io e) = Faults e
+HasNoLines Faults set path e =
     OnlyParsing (λ e. (syntax : SyntaxReference) × IsSyntaxFor set path syntax
     × LacksStart syntax (error.ParsingError e)) e
 
@@ -90,18 +99,28 @@ pub record LacksInstead (limits : Limits) (set : SyntaxSet) (path : List ℕ) (e
       ⊎ ((syntax : SyntaxReference) × (found_plain_text set ≡ Some syntax) × LacksStart syntax e)
 
 -- the same where the first line is searched within limits
-abbrev pub HasNoLinesWithin : Limits → SyntaxSet → List ℕ → Error → Type 0
-HasNoLinesWithin limits set path e = HasNoLines set path e ⊎ LacksInstead limits set path e
+abbrev pub HasNoLinesWithin : (Faults : IoError → Type 0) → Limits → SyntaxSet → List ℕ → Error
+    → Type 0
+HasNoLinesWithin Faults limits set path e =
+    HasNoLines Faults set path e ⊎ LacksInstead limits set path e
 
--- the page shows some text in the syntax of the file
-abbrev pub IsPageOfFile : SyntaxSet → Theme → List ℕ → List ℕ → Type 0
-IsPageOfFile set theme path page =
-    (syntax : SyntaxReference) × IsSyntaxFor set path syntax × (text : List ℕ)
+-- a file was opened, and this is its syntax, by what it had ahead, and its text
+pub record IsTextOfFile (Told : Answer → Type 0) (set : SyntaxSet) (path : List ℕ)
+    (syntax : SyntaxReference) (text : List ℕ) : Type 0 where
+  pub left : Option (List ℕ)
+  pub told : Told (opened path left)
+  pub told_by : IsToldSyntax set path left syntax
+  pub whole : IsTextOf left text
+
+-- the page shows the text of the file in its syntax
+abbrev pub IsPageOfFile : (Told : Answer → Type 0) → SyntaxSet → Theme → List ℕ → List ℕ → Type 0
+IsPageOfFile Told set theme path page =
+    (syntax : SyntaxReference) × (text : List ℕ) × IsTextOfFile Told set path syntax text
     × IsPageOfBytes set theme syntax text page
 
 -- there is no page: no line is read, or one is refused, or is no text, or is not read
-abbrev pub HasNoPageOfFile : SyntaxSet → List ℕ → Error → Type 0
-HasNoPageOfFile set path e =
-    HasNoLines set path e
-    ⊎ ((syntax : SyntaxReference) × IsSyntaxFor set path syntax × (text : List ℕ)
+abbrev pub HasNoPageOfFile : (Told : Answer → Type 0) → SyntaxSet → List ℕ → Error → Type 0
+HasNoPageOfFile Told set path e =
+    HasNoLines (IsFileFault Told path) set path e
+    ⊎ ((syntax : SyntaxReference) × (text : List ℕ) × IsTextOfFile Told set path syntax text
     × IsStopped set syntax text e)

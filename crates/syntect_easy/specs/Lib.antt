@@ -14,6 +14,8 @@ pub use Rattle.syntect_writers.specs.Marks
 pub use Rattle.syntect_writers.specs.Laws
 pub use Rattle.syntect_writers.specs.Page
 pub use Rattle.syntect_grammar_limits.specs.syntect_grammar_contexts.declared.syntax_reference.SyntaxReference
+pub use Rattle.syntect_style.specs.syntect_base.Trees
+pub use Rattle.syntect_style.specs.syntect_base.Walks
 pub use Rattle.syntect_style.specs.syntect_base.declared.limits.Limits
 pub use Rattle.syntect_grammar_limits.specs.FilesWithin
 pub use Rattle.syntect_grammar_limits.specs.FoldersWithin

@@ -1,5 +1,6 @@
 -- Sets of grammars that were loaded, as programs build them, and what is found in them.
 use Rattle.std.specs.Prelude.{◌≡◌, ℕ, Bool, List, [], ◌∷◌, ◌++◌, Option, Some, All, Ok, slice_get}
+use Rattle.syntect_easy.specs.syntect_base.Trees.{Answer}
 use Rattle.syntect_easy.specs.syntect_base.declared.limits.Limits.{Limits}
 use Rattle.syntect_grammar_limits.specs.FoldersWithin.{AddsFolderWithin}
 use Rattle.syntect_grammar_limits.specs.WhatLoads.{AddsOfFolder}
@@ -42,19 +43,22 @@ pub record BuildersHold : Type 0 where
       → definitions_in new ≡ definitions_in old ++ d ∷ [] → HoldsLoaded new
   pub plain_text : (old new : SyntaxSetBuilder) (before after : List (List ℕ)) → HoldsLoaded old
       → AddsPlainText old new before after → HoldsLoaded new
+  pub built : (builder : SyntaxSetBuilder) (set : SyntaxSet) → HoldsLoaded builder
+      → syntaxes_in set ≡ linked (definitions_in builder) → IsOfLoaded set
+
+-- What the calls of a builder add of a folder was loaded. `Told` is what calls on its tree told.
+pub record FoldersHold (Told : Answer → Type 0) : Type 0 where
   pub folder : (newlines : Bool) (path : List ℕ) (before after : List (List ℕ))
       (old new : SyntaxSetBuilder)
-      → HoldsLoaded old → AddsFolder newlines path before old after new → HoldsLoaded new
+      → HoldsLoaded old → AddsFolder Told newlines path before old after new → HoldsLoaded new
   pub folder_within : (limits : Limits) (newlines : Bool) (path : List ℕ)
       (before after : List (List ℕ)) (old new : SyntaxSetBuilder)
-      → HoldsLoaded old → AddsFolderWithin limits newlines path before old after new
+      → HoldsLoaded old → AddsFolderWithin Told limits newlines path before old after new
       → HoldsLoaded new
   pub what_loads : (limits : Limits) (newlines : Bool) (path : List ℕ)
       (before after : List (List ℕ)) (old new : SyntaxSetBuilder) (passed : List PassedOver)
-      → HoldsLoaded old → AddsOfFolder limits newlines path before old passed after new
+      → HoldsLoaded old → AddsOfFolder Told limits newlines path before old passed after new
       → HoldsLoaded new
-  pub built : (builder : SyntaxSetBuilder) (set : SyntaxSet) → HoldsLoaded builder
-      → syntaxes_in set ≡ linked (definitions_in builder) → IsOfLoaded set
 
 -- What is found in a set is one of it.
 pub record FindsOwn : Type 0 where

@@ -1,17 +1,19 @@
 //! Lines to styled pieces, of texts and of files.
 ghost use Rattle.std.specs.Io.Buffered.{reader_remaining};
 ghost use Rattle.std.specs.Io.KnownBytes.{Keeps};
-ghost use Rattle.std.specs.Prelude.{◌≡◌, ◌++◌, ◌∷◌, ◌+◌, ◌-◌, ◌≤◌, [], List, ℕ, None, Some, Err, IfOk, IfErr, IfSome, OnOk, OnErr};
+ghost use Rattle.std.specs.Prelude.{◌≡◌, ◌++◌, ◌∷◌, ◌+◌, ◌-◌, ◌≤◌, [], List, ℕ, Option, None, Some, Err, IfOk, IfErr, IfSome, OnOk, OnErr};
 ghost use Rattle.std.specs.Path.{path_bytes};
-ghost use Rattle.syntect_easy.specs.Files.{IsSyntaxFor, IsSyntaxWithin, IsToldSyntax, IsToldWithin, HasNoLines, HasNoLinesWithin};
+ghost use Rattle.syntect_easy.specs.Files.{IsFileFault, IsSyntaxFor, IsSyntaxWithin, IsToldSyntax, IsToldWithin, HasNoLines, HasNoLinesWithin};
 ghost use Rattle.syntect_easy.specs.syntect_grammar.Finding.{found_plain_text};
 ghost use Rattle.syntect_easy.specs.syntect_grammar.declared.error.Error.TheVariants.{NoSyntax};
 ghost use Rattle.syntect_easy.specs.Leads.{Leads};
+ghost use Rattle.syntect_easy.specs.syntect_base.Trees.{opened};
 ghost use Rattle.syntect_easy.specs.syntect_grammar_contexts.declared.syntax_reference.SyntaxReference.{SyntaxReference as ASyntax};
 ghost use Rattle.syntect_easy.specs.syntect_grammar.declared.syntax_set.SyntaxSet.{SyntaxSet as ASet};
 ghost use Rattle.syntect_easy.specs.declared.easy.HighlightLines.{HighlightLines as ALines};
 
 use crate::below::base::limits::Limits;
+use crate::below::base::tree::Tree;
 use crate::below::count::count::GhostCount;
 use crate::below::scope::stack::ScopeStack;
 use crate::below::theme::style::Style;
@@ -22,9 +24,8 @@ pub use crate::within::HighlightWithinError;
 use crate::within::refusal;
 use std::alloc::{AllocError, Global};
 use std::io::{BufRead, BufReader, Read};
+use std::mem;
 use std::path::Path;
-use std::rt::Files;
-use std::{fs, mem};
 use syntect_grammar_limits::first_line_error::{FindWithinError, FirstLineLimit};
 use syntect_grammar_limits::first_lines::find_syntax_by_first_line_within;
 pub use syntect_operations::ranges::{ScopeRangeIterator, ScopeRegionIterator};
@@ -383,8 +384,8 @@ impl<'a, F: Read + Drop> HighlightFile<'a, F> {
     /// syntax fits and the set has no `Plain Text`; `MissingMainContext` where the syntax has no
     /// context `__start`.
     #[tactic(auto, using(crate::proofs::FileLaws::told_unlimited, crate::proofs::FileLaws::refused_unlimited))]
-    pub fn new<R: Files<File = F>>(
-        files: &R,
+    pub fn new<T: Tree<File = F>>(
+        tree: &T,
         alloc: Global,
         path: Path<'_>,
         ss: &SyntaxSet,
@@ -394,14 +395,17 @@ impl<'a, F: Read + Drop> HighlightFile<'a, F> {
             (λ file. (syntax : ASyntax) × IsSyntaxFor ss.now (path_bytes path.entry) syntax
             × Leads ss.now theme.now syntax [] [] file.highlight_lines) }
         // what the file had when it was opened, if that is known, is what the reader has left
-        ensures unread { IfOk result (λ file. (opened : F) × (syntax : ASyntax)
-            × Keeps (F.remaining opened) (reader_remaining F.remaining file.reader)
-            × IsToldSyntax ss.now (path_bytes path.entry) (F.remaining opened) syntax
-            × Leads ss.now theme.now syntax [] [] file.highlight_lines) }
-        ensures refused { IfErr result (HasNoLines ss.now (path_bytes path.entry)) }
+        ensures unread { IfOk result (λ file. (left : Option (List ℕ)) × (syntax : ASyntax)
+            × Keeps left (reader_remaining F.remaining file.reader)
+            × IsToldSyntax ss.now (path_bytes path.entry) left syntax
+            × Leads ss.now theme.now syntax [] [] file.highlight_lines
+            × T.told tree.now (opened (path_bytes path.entry) left)) }
+        ensures refused { IfErr result (HasNoLines
+            (IsFileFault (T.told tree.now) (path_bytes path.entry))
+            ss.now (path_bytes path.entry)) }
     {
         let limits = Limits::unlimited();
-        match HighlightFile::new_or_plain(files, alloc, path, ss, theme, &limits) {
+        match HighlightFile::new_or_plain(tree, alloc, path, ss, theme, &limits) {
             Ok((file, _)) => Ok(file),
             Err(e) => Err(e),
         }
@@ -410,9 +414,8 @@ impl<'a, F: Read + Drop> HighlightFile<'a, F> {
     /// Opens a file as `new` does, but the patterns that are looked for in the first line make no
     /// more steps together than `Limits::steps` of `limits`. Where they would make more, the syntax
     /// is plain text, and the limit is reported.
-    #[tactic(auto, using(crate::proofs::FileLaws::not_read_within, crate::proofs::FileLaws::no_start_within))]
-    pub fn new_or_plain<R: Files<File = F>>(
-        files: &R,
+    pub fn new_or_plain<T: Tree<File = F>>(
+        tree: &T,
         alloc: Global,
         path: Path<'_>,
         ss: &SyntaxSet,
@@ -422,15 +425,16 @@ impl<'a, F: Read + Drop> HighlightFile<'a, F> {
         ensures leads { IfOk result (λ r. (syntax : ASyntax)
             × IsSyntaxWithin limits.now ss.now (path_bytes path.entry) syntax r.1
             × Leads ss.now theme.now syntax [] [] r.0.highlight_lines) }
-        ensures unread { IfOk result (λ r. (opened : F) × (syntax : ASyntax)
-            × Keeps (F.remaining opened) (reader_remaining F.remaining r.0.reader)
-            × IsToldWithin limits.now ss.now (path_bytes path.entry) (F.remaining opened)
-            syntax r.1
-            × Leads ss.now theme.now syntax [] [] r.0.highlight_lines) }
-        ensures refused { IfErr result
-            (HasNoLinesWithin limits.now ss.now (path_bytes path.entry)) }
+        ensures unread { IfOk result (λ r. (left : Option (List ℕ)) × (syntax : ASyntax)
+            × Keeps left (reader_remaining F.remaining r.0.reader)
+            × IsToldWithin limits.now ss.now (path_bytes path.entry) left syntax r.1
+            × Leads ss.now theme.now syntax [] [] r.0.highlight_lines
+            × T.told tree.now (opened (path_bytes path.entry) left)) }
+        ensures refused { IfErr result (HasNoLinesWithin
+            (IsFileFault (T.told tree.now) (path_bytes path.entry))
+            limits.now ss.now (path_bytes path.entry)) }
     {
-        let file = match fs::open(files, path) {
+        let file = match tree.open_reader(path.as_str()) {
             Ok(file) => file,
             Err(e) => return Err(Error::from(e)),
         };
@@ -478,7 +482,8 @@ fn syntax_within<'s, R: BufRead>(
     ensures found { IfOk result (λ r. IsToldWithin limits.now ss.now (path_bytes path.entry)
         (R.remaining reader.old) r.0.now r.1) }
     ensures keeps { Keeps (R.remaining reader.old) (R.remaining reader.new) }
-    ensures refused { IfErr result (HasNoLinesWithin limits.now ss.now (path_bytes path.entry)) }
+    ensures refused { IfErr result
+        (HasNoLinesWithin (λ _. Unit {0}) limits.now ss.now (path_bytes path.entry)) }
 {
     if let Some(syntax) = ss.find_syntax_by_file_name(path) {
         return Ok((syntax, None));

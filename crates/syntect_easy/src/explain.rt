@@ -4,12 +4,11 @@
 //! the calls here say it.
 use crate::below::base::loading::LoadingError;
 use crate::below::base::syntax::ParseSyntaxError;
+use crate::below::base::tree::{Tree, read_text};
 use crate::below::scope::repository::ScopeRepository;
 use crate::below::yaml::read::refused_at;
 use std::alloc::{AllocError, Global};
-use std::fs;
 use std::path::Path;
-use std::rt::Files;
 use syntect_parsing::parser::ParsingError;
 use syntect_parsing::syntax_definition::ContextReference;
 
@@ -17,18 +16,18 @@ use syntect_parsing::syntax_definition::ContextReference;
 /// message says it, with its cause. Of a grammar that is no YAML the line and column are given, and
 /// of a theme that is a property list in XML how it is converted to JSON: the file is read once
 /// more for it.
-pub fn why_not_loaded(
-    files: &impl Files,
+pub fn why_not_loaded<T: Tree>(
+    tree: &T,
     alloc: Global,
     path: Path<'_>,
     e: &LoadingError,
 ) -> Result<String, AllocError> {
     match e {
         LoadingError::ParseSyntax(ParseSyntaxError::InvalidYaml, file) => {
-            no_yaml(files, alloc, file.as_str())
+            no_yaml(tree, alloc, file.as_str())
         }
         LoadingError::ParseSyntax(_, _) => format!(in alloc; "{e}"),
-        LoadingError::ReadSettings(_) if is_xml(files, alloc, path) => {
+        LoadingError::ReadSettings(_) if is_xml(tree, alloc, path) => {
             format!(in alloc;
                 "{}: this is XML; docs/THEMES.md says how to make it JSON",
                 path.as_str()
@@ -39,9 +38,9 @@ pub fn why_not_loaded(
 }
 
 /// Where a grammar's file is no YAML.
-fn no_yaml(files: &impl Files, alloc: Global, file: &str) -> Result<String, AllocError> {
+fn no_yaml<T: Tree>(tree: &T, alloc: Global, file: &str) -> Result<String, AllocError> {
     let reason = ParseSyntaxError::InvalidYaml;
-    let Ok(text) = fs::read_to_string(&(files, alloc), file) else {
+    let Ok(text) = read_text(tree, alloc, file) else {
         return format!(in alloc; "{file}: {reason}");
     };
     match refused_at(alloc, text.as_str())? {
@@ -54,8 +53,8 @@ fn no_yaml(files: &impl Files, alloc: Global, file: &str) -> Result<String, Allo
 }
 
 /// Whether a file begins as XML does.
-fn is_xml(files: &impl Files, alloc: Global, path: Path<'_>) -> bool {
-    match fs::read_to_string(&(files, alloc), path) {
+fn is_xml<T: Tree>(tree: &T, alloc: Global, path: Path<'_>) -> bool {
+    match read_text(tree, alloc, path.as_str()) {
         Ok(text) => text.as_str().trim_start().starts_with('<'),
         Err(_) => false,
     }

@@ -12,6 +12,7 @@ ghost use Rattle.syntect_easy.specs.Rows.{IsTextOf};
 ghost use Rattle.syntect_easy.specs.syntect_grammar_loader.declared.definition.SyntaxDefinition.{SyntaxDefinition as ADefinition};
 ghost use Rattle.syntect_easy.specs.syntect_grammar_contexts.declared.syntax_reference.SyntaxReference.{SyntaxReference as ASyntax};
 
+use crate::below::base::tree::Tree;
 use crate::below::theme::theme::Theme;
 pub use crate::classed::{ClassStyle, ClassedHTMLGenerator, line_tokens_to_classed_spans};
 use crate::easy::{HighlightFile, HighlightLines};
@@ -19,7 +20,6 @@ use crate::reading::{next_line, text_of};
 use std::alloc::Global;
 use std::io::{BufRead, Error as IoError, ErrorKind};
 use std::path::Path;
-use std::rt::Files;
 use syntect_parsing::error::Error;
 use syntect_parsing::syntax_set::{SyntaxReference, SyntaxSet};
 pub use syntect_writers::html::{
@@ -90,22 +90,21 @@ pub fn highlighted_html_for_reader<R: BufRead + Drop>(
 /// A file's lines as HTML with inline styles: as `highlighted_html_for_reader` for what the file
 /// holds, in the syntax that `SyntaxSet::find_syntax_for_file` finds, or else plain text. A fault
 /// of the file is `Io`, and `NoSyntax` comes where no syntax fits and the set has no `Plain Text`.
-pub fn highlighted_html_for_file(
-    files: &impl Files,
+pub fn highlighted_html_for_file<T: Tree>(
+    tree: &T,
     alloc: Global,
     path: Path<'_>,
     ss: &SyntaxSet,
     theme: &Theme,
 ) -> Result<String, Error>
-    // the set was built of plain definitions; of what the file holds nothing is known but that the
-    // page shows it
+    // the set was built of plain definitions
     ensures page { (definitions : List ADefinition) → IsBuilt ss.now definitions
-        → IfOk result (λ page. IsPageOfFile ss.now theme.now (path_bytes path.entry)
-        (string_bytes page)) }
+        → IfOk result (λ page. IsPageOfFile (T.told tree.now) ss.now theme.now
+        (path_bytes path.entry) (string_bytes page)) }
     ensures refused { (definitions : List ADefinition) → IsBuilt ss.now definitions
-        → IfErr result (HasNoPageOfFile ss.now (path_bytes path.entry)) }
+        → IfErr result (HasNoPageOfFile (T.told tree.now) ss.now (path_bytes path.entry)) }
 {
-    match HighlightFile::new(files, alloc, path, ss, theme) {
+    match HighlightFile::new(tree, alloc, path, ss, theme) {
         Ok(file) => page_of_lines(alloc, file.reader, file.highlight_lines, ss, theme),
         Err(e) => Err(e),
     }

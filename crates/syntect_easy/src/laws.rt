@@ -4,11 +4,12 @@ ghost use Rattle.syntect_easy.specs.syntect_grammar_loader.declared.definition.S
 ghost use Rattle.syntect_parsing.specs.Refusals.{AreByName};
 ghost use Rattle.syntect_easy.specs.Built.{IsPlain, IsLoaded};
 ghost use Rattle.syntect_easy.specs.ClassedPages.{ClosedIsPage, GivenStands};
-ghost use Rattle.syntect_easy.specs.Loaded.{BuildersHold, FindsOwn, LoadedSetsMeet};
+ghost use Rattle.syntect_easy.specs.Loaded.{BuildersHold, FindsOwn, FoldersHold, LoadedSetsMeet};
 ghost use Rattle.syntect_easy.specs.PlainLines.{LinesBegin, LinesGoOn, LinesEnd};
 ghost use Rattle.syntect_easy.specs.Promises.{LoadedIsPlain, LoadedStay, NothingIsCleared, AllRunOrderly, PastsStay, StatesGoOn, LoadedGiveScopes, BuiltBeginPlain, OperationsApply};
 ghost use Rattle.syntect_easy.specs.Rows.{RowsBegin, RowsGoOn, RowsEnd, RowsRefuse, RowsStop};
 
+use crate::below::base::tree::Tree;
 pub use syntect_writers::marks_seen::{
     marks_follow_the_operations, pages_are_seen, written_marks_are_seen,
 };
@@ -35,15 +36,23 @@ pub fn loaded_sets_stay()
     crate::below::grammar::laws::loaded_by_name();
 }
 
-/// A set that a builder links of grammars which were loaded, from texts or from folders, and a
-/// syntax that is found in it meet all that `highlighted_html_for_string`, the other pages and
-/// `HighlightLines::highlight_line` have as premises.
+/// A set that a builder links of grammars which were loaded, from texts or from folders
+/// (`folders_are_loaded`), and a syntax that is found in it meet all that
+/// `highlighted_html_for_string`, the other pages and `HighlightLines::highlight_line` have as
+/// premises.
 pub fn loaded_sets_are_built()
     ensures builders { BuildersHold }
     ensures found { FindsOwn }
     ensures premises { LoadedSetsMeet }
 {
     crate::below::grammar::laws::loaded_by_name();
+}
+
+/// What a builder adds of folders of this tree was loaded: it leads to `loaded_sets_are_built`.
+pub fn folders_are_loaded<T: Tree>(tree: &T)
+    ensures { FoldersHold (T.told tree.now) }
+{
+    let _ = tree;
 }
 
 /// Where no context clears, all lines are orderly, so that the clauses of

@@ -4,7 +4,7 @@ pub mod SameLaws
 pub mod WalkLaws
 pub mod FrameLaws
 pub mod FlatLaws
-mod FindLaws
+pub mod FindLaws
 pub mod FolderLaws
 pub mod ApartLaws
 pub use Rattle.syntect_grammar_loader.proofs.syntect_base_proofs as syntect_base_proofs

@@ -1,10 +1,13 @@
 -- Which syntax of a set is found: the last one that fits.
-use Rattle.std.specs.Prelude.{◌≡◌, ℕ, ◌==◌, Bool, false, ◌||◌, List, [], ◌∷◌, reverse, drop, find, codes, is_some, Option, None, slice_get, unwrap_or, if◌then◌else◌}
+use Rattle.std.specs.Prelude.{◌≡◌, ◌≢◌, ℕ, ◌==◌, Bool, false, ◌||◌, List, [], ◌∷◌, reverse, drop, find, codes, is_some, IsUtf8, Option, None, slice_get, unwrap_or, if◌then◌else◌}
 use Rattle.std.specs.Option.{option_or, option_map_or, option_and_then}
 use Rattle.std.specs.List.{list_any, starts_with, ends_with}
 use Rattle.std.specs.Path.{path_file_name, path_extension}
 use Rattle.std.specs.Str.{str_eq_ignore_ascii_case}
 use Rattle.std.specs.Cmp.Lexicographic.{pointwise}
+use Rattle.std.specs.IoError.{error_kind}
+use Rattle.std.specs.declared.io.ErrorKind.TheVariants.{OutOfMemory}
+use Rattle.syntect_grammar.specs.syntect_base.Trees.{Answer, begins, RefusesLine}
 use Rattle.syntect_grammar.specs.syntect_pattern.Pattern.{pattern_found}
 use Rattle.syntect_grammar.specs.Link.{syntaxes_in, set_paths}
 use Rattle.syntect_grammar.specs.declared.error.Error.{Error}
@@ -82,8 +85,17 @@ abbrev pub found_for_file : SyntaxSet → List ℕ → List ℕ → Option Synta
 found_for_file set path line =
     option_or (found_by_file_name set path) (found_by_first_line set line)
 
--- The file is asked, as its path tells nothing; and it was not read, or there was no memory.
-abbrev pub NotFoundFor : SyntaxSet → List ℕ → Error → Type 0
-NotFoundFor set path (Io e) = found_by_file_name set path ≡ None
-NotFoundFor set path Memory = found_by_file_name set path ≡ None
-NotFoundFor set path e = ⊥
+-- The syntax of a file: its path tells it, or else the first line that was read of it.
+abbrev pub IsFoundFor : (Told : Answer → Type 0) → SyntaxSet → List ℕ → Option SyntaxReference
+    → Type 0
+IsFoundFor Told set path found =
+    (line : List ℕ) × IsUtf8 line × (found ≡ found_for_file set path line)
+    × (found_by_file_name set path ≡ None → Told (begins path line))
+
+-- The file is asked, as its path tells nothing; and it gave no first line, for a fault that is not
+-- that memory ran out, or there was no memory.
+abbrev pub NotFoundFor : (Told : Answer → Type 0) → SyntaxSet → List ℕ → Error → Type 0
+NotFoundFor Told set path (Io e) =
+    (found_by_file_name set path ≡ None) × (error_kind e ≢ OutOfMemory) × RefusesLine Told path e
+NotFoundFor Told set path Memory = found_by_file_name set path ≡ None
+NotFoundFor Told set path e = ⊥

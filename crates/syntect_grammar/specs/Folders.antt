@@ -1,11 +1,13 @@
 -- Grammars and metadata from the files of folders.
-use Rattle.std.specs.Prelude.{◌≡◌, ◌≢◌, ℕ, ◌==◌, Bool, true, false, List, [], ◌∷◌, ◌++◌, length, codes, None}
+use Rattle.std.specs.Prelude.{◌≡◌, ◌≢◌, ℕ, ◌==◌, Bool, true, false, List, [], ◌∷◌, ◌++◌, length, codes}
 use Rattle.std.specs.Cmp.Lexicographic.{pointwise}
 use Rattle.std.specs.Option.{option_map_or}
 use Rattle.std.specs.Path.{path_extension}
-use Rattle.syntect_grammar.specs.syntect_base.Walks.{IsWalk, IsWalkFault}
+use Rattle.syntect_grammar.specs.syntect_base.Trees.{Answer, has_bytes}
+use Rattle.syntect_grammar.specs.syntect_base.Walks.{IsWalk, BeginsWalk, RefusesWalk}
 use Rattle.syntect_grammar.specs.syntect_base.declared.loading.LoadingError.{LoadingError}
 use Rattle.syntect_grammar.specs.syntect_base.declared.loading.LoadingError.TheVariants.{Memory}
+use Rattle.syntect_grammar.specs.syntect_base.declared.utils.Sought.TheVariants.{Grammars}
 use Rattle.syntect_grammar.specs.Link.{definitions_in, paths_in}
 use Rattle.syntect_grammar.specs.Metadata.{entries_in}
 use Rattle.syntect_grammar_loader.specs.Files.{IsSyntaxOf, RefusesRead}
@@ -53,59 +55,64 @@ abbrev pub with_entry : RawMetadataEntry → SyntaxSetBuilder → SyntaxSetBuild
 with_entry entry builder =
     record builder { raw_metadata = record { loaded = entries_in builder ++ entry ∷ [] } }
 
--- A file of metadata adds its entry; where it gives none, for another cause than lack of memory, it
--- is passed over.
-pub data AddsMetadata (path : List ℕ) (builder : SyntaxSetBuilder) : SyntaxSetBuilder → Type 0 where
-  entry_added : {bytes : List ℕ} {entry : RawMetadataEntry} → IsEntryOf path bytes entry
-      → AddsMetadata path builder (with_entry entry builder)
-  passed_over : {e : LoadingError} → IsEntryFault e → e ≢ Memory → AddsMetadata path builder builder
+-- A file of metadata adds the entry of the bytes that were read of it; where it gives none, for
+-- another cause than lack of memory, it is passed over.
+pub data AddsMetadata (Told : Answer → Type 0) (path : List ℕ) (builder : SyntaxSetBuilder)
+    : SyntaxSetBuilder → Type 0 where
+  entry_added : {bytes : List ℕ} {entry : RawMetadataEntry} → Told (has_bytes path bytes)
+      → IsEntryOf path bytes entry → AddsMetadata Told path builder (with_entry entry builder)
+  passed_over : {e : LoadingError} → IsEntryFault Told path e → e ≢ Memory
+      → AddsMetadata Told path builder builder
 
 -- The grammars and the metadata among these files are added to a builder, one after another, each
--- grammar under its path. Of what a file holds nothing is known but that it gave a
--- definition or an entry.
-pub data AddsSyntaxes (newlines : Bool) : List (List ℕ) → List (List ℕ) → SyntaxSetBuilder
-    → List (List ℕ) → SyntaxSetBuilder → Type 0 where
+-- grammar under its path, and each as the bytes give it that were read of its file.
+pub data AddsSyntaxes (Told : Answer → Type 0) (newlines : Bool) : List (List ℕ)
+    → List (List ℕ) → SyntaxSetBuilder → List (List ℕ) → SyntaxSetBuilder → Type 0 where
   no_more : {repo : List (List ℕ)} {builder : SyntaxSetBuilder}
-      → AddsSyntaxes newlines [] repo builder repo builder
+      → AddsSyntaxes Told newlines [] repo builder repo builder
   other : {path : List ℕ} {paths old new : List (List ℕ)} {builder all : SyntaxSetBuilder}
       → is_grammar_path path ≡ false → is_metadata_path path ≡ false
-      → AddsSyntaxes newlines paths old builder new all
-      → AddsSyntaxes newlines (path ∷ paths) old builder new all
+      → AddsSyntaxes Told newlines paths old builder new all
+      → AddsSyntaxes Told newlines (path ∷ paths) old builder new all
   grammar : {path bytes : List ℕ} {paths old left new : List (List ℕ)}
       {builder all : SyntaxSetBuilder} {d : SyntaxDefinition} → is_grammar_path path ≡ true
-      → IsSyntaxOf newlines path old bytes left d
-      → AddsSyntaxes newlines paths left (with_loaded path d builder) new all
-      → AddsSyntaxes newlines (path ∷ paths) old builder new all
+      → Told (has_bytes path bytes) → IsSyntaxOf newlines path old bytes left d
+      → AddsSyntaxes Told newlines paths left (with_loaded path d builder) new all
+      → AddsSyntaxes Told newlines (path ∷ paths) old builder new all
   metadata : {path : List ℕ} {paths old new : List (List ℕ)} {builder next all : SyntaxSetBuilder}
       → is_metadata_path path ≡ true
-      → AddsMetadata path builder next → AddsSyntaxes newlines paths old next new all
-      → AddsSyntaxes newlines (path ∷ paths) old builder new all
+      → AddsMetadata Told path builder next → AddsSyntaxes Told newlines paths old next new all
+      → AddsSyntaxes Told newlines (path ∷ paths) old builder new all
 
 -- why a file stops this: it is a grammar's and gives no syntax, or it has metadata and
 -- there is no memory
-pub data StopsFile (newlines : Bool) (path : List ℕ) (repo : List (List ℕ)) : LoadingError
-    → Type 0 where
+pub data StopsFile (Told : Answer → Type 0) (newlines : Bool) (path : List ℕ)
+    (repo : List (List ℕ)) : LoadingError → Type 0 where
   at_grammar : {e : LoadingError} → is_grammar_path path ≡ true
-      → RefusesRead newlines path None repo e → StopsFile newlines path repo e
-  at_metadata : is_metadata_path path ≡ true → StopsFile newlines path repo Memory
+      → RefusesRead Told newlines path repo e → StopsFile Told newlines path repo e
+  at_metadata : is_metadata_path path ≡ true → StopsFile Told newlines path repo Memory
 
 -- ---- folders ----
 
 -- the grammars and the metadata in a folder and in those below it are added, in the order of a walk
-pub record AddsFolder (newlines : Bool) (folder : List ℕ) (old : List (List ℕ))
-    (builder : SyntaxSetBuilder) (new : List (List ℕ)) (all : SyntaxSetBuilder) : Type 0 where
+pub record AddsFolder (Told : Answer → Type 0) (newlines : Bool) (folder : List ℕ)
+    (old : List (List ℕ)) (builder : SyntaxSetBuilder) (new : List (List ℕ))
+    (all : SyntaxSetBuilder) : Type 0 where
   pub files : List (List ℕ)
-  pub walk : IsWalk folder files
-  pub adds : AddsSyntaxes newlines files old builder new all
+  pub walk : IsWalk Told Grammars folder files
+  pub adds : AddsSyntaxes Told newlines files old builder new all
 
--- Why they are not, and what is added then: the files before a fault of the walk, whose scopes
--- alone the repository has then more; or the files before one that stops this.
-pub data RefusesFolder (newlines : Bool) (folder : List ℕ) (old : List (List ℕ))
-    (builder : SyntaxSetBuilder) : LoadingError → List (List ℕ) → SyntaxSetBuilder → Type 0 where
+-- Why they are not, and what is added then: the files before the walk was refused; or the files
+-- before one that stops this.
+pub data RefusesFolder (Told : Answer → Type 0) (newlines : Bool) (folder : List ℕ)
+    (old : List (List ℕ)) (builder : SyntaxSetBuilder)
+    : LoadingError → List (List ℕ) → SyntaxSetBuilder → Type 0 where
   no_walk : {e : LoadingError} {files new : List (List ℕ)} {all : SyntaxSetBuilder}
-      → IsWalk folder files → AddsSyntaxes newlines files old builder new all
-      → IsWalkFault e → RefusesFolder newlines folder old builder e new all
+      → RefusesWalk Told Grammars folder files e
+      → AddsSyntaxes Told newlines files old builder new all
+      → RefusesFolder Told newlines folder old builder e new all
   no_syntax : {e : LoadingError} {path : List ℕ} {files left new : List (List ℕ)}
-      {all : SyntaxSetBuilder} → IsWalk folder (files ++ path ∷ [])
-      → AddsSyntaxes newlines files old builder left all → StopsFile newlines path left e
-      → RefusesFolder newlines folder old builder e new all
+      {all : SyntaxSetBuilder} → BeginsWalk Told Grammars folder (files ++ path ∷ [])
+      → AddsSyntaxes Told newlines files old builder left all
+      → StopsFile Told newlines path left e
+      → RefusesFolder Told newlines folder old builder e new all

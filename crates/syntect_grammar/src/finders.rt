@@ -1,23 +1,20 @@
 //! Finding a syntax of a set: the last one that fits.
-ghost use Rattle.std.specs.Prelude.{◌≡◌, ◌==◌, ℕ, List, ◌∷◌, IsUtf8, IfOk, IsOk, IfErr, IfSome, string_bytes};
-ghost use Rattle.std.specs.Io.BufRead.{take_through};
+ghost use Rattle.std.specs.Prelude.{◌≡◌, ◌==◌, ◌∷◌, IfOk, IsOk, IfErr};
 ghost use Rattle.std.specs.List.{ends_with};
 ghost use Rattle.std.specs.Option.{option_copied};
 ghost use Rattle.std.specs.Path.{path_bytes};
 ghost use Rattle.std.specs.Str.{str_eq_ignore_ascii_case};
-ghost use Rattle.syntect_grammar.specs.Finding.{found_by_scope, found_by_name, found_by_extension, found_by_token, found_plain_text, has_extension, last_fitting, without_mark, fits_line, found_by_first_line, ends_in_path, found_by_path, found_by_file_name, found_for_file, NotFoundFor};
+ghost use Rattle.syntect_grammar.specs.Finding.{found_by_scope, found_by_name, found_by_extension, found_by_token, found_plain_text, has_extension, last_fitting, without_mark, fits_line, found_by_first_line, ends_in_path, found_by_path, found_by_file_name, IsFoundFor, NotFoundFor};
 ghost use Rattle.syntect_grammar.specs.Link.{syntaxes_in, set_paths};
 
+use crate::below::base::tree::{Tree, first_line};
 use crate::below::regexes::region::Region;
 use crate::below::scope::scope::Scope;
 use crate::below::values::text::Text;
 use crate::error::Error;
 use crate::syntax_set::{SyntaxReference, SyntaxSet};
 use std::alloc::{AllocError, Global};
-use std::io::{BufRead, BufReader};
 use std::path::Path;
-use std::rt::Files;
-use std::{fs, io};
 
 /// Whether a syntax has an extension, the case of ASCII letters aside.
 fn has_extension(syntax: &SyntaxReference, extension: &str) -> bool
@@ -66,22 +63,6 @@ fn ends_in_path(whole: &str, path: &str) -> bool
     ensures { result ≡ ends_in_path whole.now path.now }
 {
     whole == path || ends_behind_slash(whole.as_bytes(), path.as_bytes())
-}
-
-/// The first line of what a reader has left, with its line feed if it has one.
-fn first_line_of<R: BufRead>(alloc: Global, reader: &mut R) -> Result<String, io::Error>
-    ensures { IfOk result (λ line. IfSome (R.Read.remaining reader.old) (λ left.
-        string_bytes line ≡ take_through 10 left)) }
-{
-    let mut line = String::new(alloc);
-    reader.read_line(&mut line)?;
-    Ok(line)
-}
-
-/// The first line of a file.
-pub fn first_line(files: &impl Files, alloc: Global, path: Path<'_>) -> Result<String, io::Error> {
-    let mut reader = BufReader::new(alloc, fs::open(files, path)?)?;
-    first_line_of(alloc, &mut reader)
 }
 
 impl SyntaxSet {
@@ -204,22 +185,21 @@ impl SyntaxSet {
     /// The syntax of a file: as `find_syntax_by_file_name` finds it, or else the last whose
     /// first-line pattern is found in the file's first line. The file is opened only where its path
     /// tells nothing; `Io` where that fails, or the line can't be read or isn't UTF-8.
-    pub fn find_syntax_for_file(
+    pub fn find_syntax_for_file<T: Tree>(
         &self,
-        files: &impl Files,
+        tree: &T,
         alloc: Global,
         path: Path<'_>,
     ) -> Result<Option<&SyntaxReference>, Error>
-        // of what the file holds nothing is known but that its first line is a text
-        ensures found { IfOk result
-            (λ found. (line : List ℕ) × IsUtf8 line
-            × (option_copied found ≡ found_for_file self.now (path_bytes path.entry) line)) }
-        ensures refused { IfErr result (NotFoundFor self.now (path_bytes path.entry)) }
+        ensures found { IfOk result (λ found.
+            IsFoundFor (T.told tree.now) self.now (path_bytes path.entry) (option_copied found)) }
+        ensures refused { IfErr result
+            (NotFoundFor (T.told tree.now) self.now (path_bytes path.entry)) }
     {
         if let Some(syntax) = self.find_syntax_by_file_name(path) {
             return Ok(Some(syntax));
         }
-        let line = match first_line(files, alloc, path) {
+        let line = match first_line(tree, alloc, path.as_str()) {
             Ok(line) => line,
             Err(e) => return Err(Error::from(e)),
         };

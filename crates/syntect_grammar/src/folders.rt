@@ -9,13 +9,13 @@ ghost use Rattle.syntect_grammar_loader.specs.LoadingSteps.{KeepsAtoms};
 ghost use Rattle.syntect_grammar.specs.declared.syntax_set.SyntaxSetBuilder.{SyntaxSetBuilder as ABuilder};
 
 use crate::below::base::loading::LoadingError;
+use crate::below::base::tree::Tree;
 use crate::below::base::utils::{Sought, Walk};
 use crate::below::scope::repository::ScopeRepository;
 use crate::below::values::text::Text;
 use crate::syntax_set::{SyntaxSet, SyntaxSetBuilder};
 use std::alloc::Global;
 use std::path::Path;
-use std::rt::Files;
 use syntect_grammar_loader::files::load_file;
 use syntect_metadata::raw::RawMetadataEntry;
 
@@ -49,33 +49,33 @@ impl SyntaxSetBuilder {
     ///
     /// A fault of the walk is `WalkDir`; a file that cannot be read, or isn't UTF-8, is `Io`, and
     /// one that is no grammar is `ParseSyntax` with its path. What was met before stays added.
-    pub fn add_from_folder(
+    pub fn add_from_folder<T: Tree>(
         &mut self,
-        files: &impl Files,
+        tree: &T,
         alloc: Global,
         folder: Path<'_>,
         lines_include_newline: bool,
         repository: &mut ScopeRepository,
     ) -> Result<(), LoadingError>
-        ensures ok { OnOk result (AddsFolder lines_include_newline (path_bytes folder.entry)
-            repository.old self.old repository.new self.new) }
-        ensures err { IfErr result
-            (λ e. RefusesFolder lines_include_newline (path_bytes folder.entry)
-            repository.old self.old e repository.new self.new) }
+        ensures ok { OnOk result (AddsFolder (T.told tree.now) lines_include_newline
+            (path_bytes folder.entry) repository.old self.old repository.new self.new) }
+        ensures err { IfErr result (λ e.
+            RefusesFolder (T.told tree.now) lines_include_newline
+            (path_bytes folder.entry) repository.old self.old e repository.new self.new) }
         ensures kept { KeepsAtoms repository.old repository.new }
     {
-        let mut walk = match Walk::new(files, alloc, folder, Sought::Grammars) {
+        let mut walk = match Walk::new(tree, alloc, folder, Sought::Grammars) {
             Ok(walk) => walk,
             Err(e) => return Err(e),
         };
         'files: loop {
-            let path = match walk.next_file(files, alloc) {
+            let path = match walk.next_file(tree, alloc) {
                 Ok(Some(path)) => path,
                 Ok(None) => return Ok(()),
                 Err(e) => return Err(e),
             };
             match self.add_file(
-                files,
+                tree,
                 alloc,
                 path.as_str(),
                 lines_include_newline,
@@ -89,43 +89,45 @@ impl SyntaxSetBuilder {
 
     #[tactic(auto, using(crate::proofs::FolderLaws::passes_over, crate::proofs::FolderLaws::adds_metadata, crate::proofs::FolderLaws::no_room))]
     /// Adds what is in a file, if it is a grammar's or has metadata.
-    fn add_file(
+    fn add_file<T: Tree>(
         &mut self,
-        files: &impl Files,
+        tree: &T,
         alloc: Global,
         path: &str,
         lines_include_newline: bool,
         repository: &mut ScopeRepository,
     ) -> Result<(), LoadingError>
         ensures ok { OnOk result
-            (AddsSyntaxes lines_include_newline
+            (AddsSyntaxes (T.told tree.now) lines_include_newline
             (path.now ∷ []) repository.old self.old repository.new self.new) }
         ensures err { OnErr result (self.new ≡ self.old) }
-        ensures refusal { IfErr result (StopsFile lines_include_newline path.now repository.old) }
+        ensures refusal { IfErr result
+            (StopsFile (T.told tree.now) lines_include_newline path.now repository.old) }
         ensures kept { KeepsAtoms repository.old repository.new }
     {
         if is_grammar(path) {
-            return self.add_grammar(files, alloc, path, lines_include_newline, repository);
+            return self.add_grammar(tree, alloc, path, lines_include_newline, repository);
         }
         if is_metadata(path) {
-            return self.add_metadata(files, alloc, path);
+            return self.add_metadata(tree, alloc, path);
         }
         Ok(())
     }
 
     /// Adds the entry in a file of metadata, which is passed over where it gives none.
     #[tactic(auto, using(crate::proofs::FolderLaws::one_entry))]
-    pub fn add_metadata(
+    pub fn add_metadata<T: Tree>(
         &mut self,
-        files: &impl Files,
+        tree: &T,
         alloc: Global,
         path: &str,
     ) -> Result<(), LoadingError>
-        ensures ok { OnOk result (AddsMetadata path.now self.old self.new) }
+        ensures ok { OnOk result
+            (AddsMetadata (T.told tree.now) path.now self.old self.new) }
         ensures err { OnErr result (self.new ≡ self.old) }
         ensures memory { IfErr result (λ e. e ≡ Memory) }
     {
-        match RawMetadataEntry::load(files, alloc, Path::new(path)) {
+        match RawMetadataEntry::load(tree, alloc, Path::new(path)) {
             Ok(entry) => match self.add_entry(entry) {
                 Ok(()) => Ok(()),
                 Err(_) => Err(LoadingError::Memory),
@@ -136,9 +138,9 @@ impl SyntaxSetBuilder {
     }
 
     /// Adds the grammar of a file.
-    fn add_grammar(
+    fn add_grammar<T: Tree>(
         &mut self,
-        files: &impl Files,
+        tree: &T,
         alloc: Global,
         path: &str,
         lines_include_newline: bool,
@@ -146,13 +148,14 @@ impl SyntaxSetBuilder {
     ) -> Result<(), LoadingError>
         requires { is_grammar_path path.now ≡ true }
         ensures ok { OnOk result
-            (AddsSyntaxes lines_include_newline
+            (AddsSyntaxes (T.told tree.now) lines_include_newline
             (path.now ∷ []) repository.old self.old repository.new self.new) }
         ensures err { OnErr result (self.new ≡ self.old) }
-        ensures refusal { IfErr result (StopsFile lines_include_newline path.now repository.old) }
+        ensures refusal { IfErr result
+            (StopsFile (T.told tree.now) lines_include_newline path.now repository.old) }
         ensures kept { KeepsAtoms repository.old repository.new }
     {
-        let syntax = match load_file(files, alloc, path, lines_include_newline, repository) {
+        let syntax = match load_file(tree, alloc, path, lines_include_newline, repository) {
             Ok(syntax) => syntax,
             Err(e) => return Err(e),
         };
@@ -171,24 +174,25 @@ impl SyntaxSet {
     /// `add_from_folder` adds and `build` links them. Lines with line feeds, as `LinesWithEndings`
     /// gives, it colours wrongly and without notice: call `add_from_folder` with `true` for them.
     #[tactic(auto, using(crate::proofs::FolderLaws::keeps_all))]
-    pub fn load_from_folder(
-        files: &impl Files,
+    pub fn load_from_folder<T: Tree>(
+        tree: &T,
         alloc: Global,
         folder: Path<'_>,
         repository: &mut ScopeRepository,
     ) -> Result<SyntaxSet, LoadingError>
         ensures ok { IfOk result (λ set. (builder : ABuilder) × (left : List (List ℕ))
-            × AddsFolder false (path_bytes folder.entry) repository.old no_definitions left builder
+            × AddsFolder (T.told tree.now) false (path_bytes folder.entry) repository.old
+            no_definitions left builder
             × (syntaxes_in set ≡ linked (definitions_in builder))
             × (set_paths set ≡ paths_in builder)
             × IsMergedOf left builder repository.new (metadata_in set)) }
         ensures err { IfErr result (λ e. e ≢ Memory → (builder : ABuilder)
-            × RefusesFolder false (path_bytes folder.entry) repository.old no_definitions e
-            repository.new builder) }
+            × RefusesFolder (T.told tree.now) false (path_bytes folder.entry) repository.old
+            no_definitions e repository.new builder) }
         ensures kept { KeepsAtoms repository.old repository.new }
     {
         let mut builder = SyntaxSetBuilder::new(alloc);
-        match builder.add_from_folder(files, alloc, folder, false, repository) {
+        match builder.add_from_folder(tree, alloc, folder, false, repository) {
             Ok(()) => {}
             Err(e) => return Err(e),
         }

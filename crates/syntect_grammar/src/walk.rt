@@ -187,7 +187,8 @@ impl Walker {
         self.enter(id)
     }
 
-    /// Walks a context on its own include path, each pattern once. `false`: no steps were left.
+    /// Walks a context, which stands on its own include path, far enough to find the first pattern
+    /// that passes a test: repeated ones may be left out. `false` where counted steps run out.
     fn walk(
         &mut self,
         syntaxes: &[SyntaxReference],

@@ -4,7 +4,9 @@ use Rattle.std.specs.Prelude.{Result, Ok, Err, IfOk, IfErr}
 use Rattle.std.specs.Global.{Global}
 use Rattle.std.specs.Path.{path_file_stem}
 use Rattle.std.specs.declared.io.Error.{Error}
+use Rattle.syntect_grammar_limits.proofs.syntect_base_proofs.ReadLaws.{read_fault}
 use Rattle.syntect_grammar_limits.specs.syntect_base.Refusals.{IsReadFault}
+use Rattle.syntect_grammar_limits.specs.syntect_base.Trees.{Answer as TreeAnswer, has_bytes, RefusesText}
 use Rattle.syntect_grammar_limits.specs.syntect_base.declared.limits.Limits.{Limits}
 use Rattle.syntect_grammar_limits.specs.syntect_base.declared.limits.LimitReached.{LimitReached}
 use Rattle.syntect_grammar_limits.specs.syntect_base.declared.limits.LoadWithinError.TheVariants as within
@@ -12,7 +14,7 @@ use Rattle.syntect_grammar_limits.specs.syntect_base.declared.loading.LoadingErr
 use Rattle.syntect_grammar_limits.specs.syntect_base.declared.loading.LoadingError.TheVariants as loading
 use Rattle.syntect_grammar_limits.specs.syntect_base.declared.syntax.ParseSyntaxError.{ParseSyntaxError}
 use Rattle.syntect_grammar_limits.specs.syntect_base.declared.syntax.ParseSyntaxError.TheVariants as syntax
-use Rattle.syntect_grammar_limits.specs.FilesWithin.{room_after, IsSyntaxWithin, RefusesSyntaxWithin, IsReadWithin, RefusesReadWithin, no_grammar, too_much, no_memory, not_read, refused, no_room}
+use Rattle.syntect_grammar_limits.specs.FilesWithin.{room_after, IsSyntaxWithin, RefusesSyntaxWithin, RefusesCounted, IsReadWithin, RefusesReadWithin, no_grammar, too_much, no_memory, refused, not_read, of_bytes, no_memory_here}
 use Rattle.syntect_grammar_limits.specs.declared.folder_error.FolderWithinError.{FolderWithinError}
 use Rattle.syntect_grammar_limits.specs.declared.folder_error.FolderWithinError.TheVariants as error
 use Rattle.syntect_grammar_limits.specs.syntect_grammar_loader.Files.{RefusesSyntax}
@@ -77,22 +79,30 @@ module _ (limits : Limits) (newlines : Bool) (path bytes : List ℕ) (old new : 
 -- ---- files ----
 
 module _ (limits : Limits) (newlines : Bool) (path : List ℕ) (repo : List (List ℕ)) (room : ℕ) where
-  pub read_so : (e : Error) (r : LoadingError) → IsReadFault e r → RefusesReadWithin limits newlines path repo room (error.Refused r)
-  read_so e loading.Memory f = no_room
-  read_so e (loading.Io x) f = not_read
-  read_so e loading.WalkDir f = let q : loading.WalkDir ≡ loading.Io e = f.either (λ q. cc) in cc
-  read_so e (loading.ParseSyntax x y) f = let q : loading.ParseSyntax x y ≡ loading.Io e = f.either (λ q. cc) in cc
-  read_so e loading.ParseMetadata f = let q : loading.ParseMetadata ≡ loading.Io e = f.either (λ q. cc) in cc
-  read_so e (loading.ParseTheme x) f = let q : loading.ParseTheme x ≡ loading.Io e = f.either (λ q. cc) in cc
-  read_so e (loading.ReadSettings x) f = let q : loading.ReadSettings x ≡ loading.Io e = f.either (λ q. cc) in cc
-  read_so e loading.BadPath f = let q : loading.BadPath ≡ loading.Io e = f.either (λ q. cc) in cc
-
   pub any_refused : {A : Type 0} (bytes : List ℕ) (left : ℕ) (r : Result A FolderWithinError) → room_after room (length bytes) ≡ Some left → IfErr r (RefusesSyntaxWithin limits newlines path bytes repo)
-      → IfErr r (RefusesReadWithin limits newlines path repo room)
+      → IfErr r (RefusesCounted limits newlines path bytes repo room)
   any_refused bytes left (Ok x) l h = tt
-  any_refused bytes left (Err e) l h = refused {bytes = bytes} {left = left} l h
+  any_refused bytes left (Err e) l h = refused {left = left} l h
 
-  pub any_read : {E : Type 0} (bytes : List ℕ) (left : ℕ) (new : List (List ℕ)) (r : Result SyntaxDefinition E) → room_after room (length bytes) ≡ Some left → IfOk r (IsSyntaxWithin limits newlines path repo bytes new)
-      → IfOk r (IsReadWithin limits newlines path repo room new left)
-  any_read bytes left new (Ok d) l h = (bytes, l, h)
-  any_read bytes left new (Err e) l h = tt
+  pub any_left : {A E : Type 0} (r : Result A E) (bytes : List ℕ) (left : ℕ) → room_after room (length bytes) ≡ Some left → IfOk r (λ d. room_after room (length bytes) ≡ Some left)
+  any_left (Ok d) bytes left l = l
+  any_left (Err e) bytes left l = tt
+
+  module _ (Told : TreeAnswer → Type 0) where
+    -- a file that gives no text
+    pub no_text_read : (e : Error) (r : LoadingError) → RefusesText Told path e → IsReadFault e r → RefusesReadWithin Told limits newlines path repo room (error.Refused r)
+    no_text_read e r t f = read_fault (λ (x : LoadingError). RefusesReadWithin Told limits newlines path repo room (error.Refused x)) e no_memory_here (λ k. not_read {e = e} t k) r f
+
+    module _ (bytes text : List ℕ) (same : text ≡ bytes) (told : Told (has_bytes path bytes)) where
+      has_read : Told (has_bytes path text)
+      has_read = subst (λ (b : List ℕ). Told (has_bytes path b)) (sym same) told
+
+      -- what is refused of the text that was read, and what is made of it
+      pub text_refused : {A : Type 0} (r : Result A FolderWithinError) → IfErr r (RefusesCounted limits newlines path text repo room) → IfErr r (RefusesReadWithin Told limits newlines path repo room)
+      text_refused (Ok d) h = tt
+      text_refused (Err e) h = of_bytes has_read h
+
+      pub text_gives : {E : Type 0} (left : ℕ) (new : List (List ℕ)) (r : Result SyntaxDefinition E) → IfOk r (λ d. room_after room (length text) ≡ Some left) → IfOk r (IsSyntaxWithin limits newlines path repo text new)
+          → IfOk r (IsReadWithin Told limits newlines path repo room new left)
+      text_gives left new (Ok d) l h = (text, has_read, l, h)
+      text_gives left new (Err e) l h = tt

@@ -1,17 +1,23 @@
 -- Searches of first lines.
-use Rattle.std.proofs.Common.{◌≡◌, ℕ, zero, suc, ◌+◌, ◌-◌, ◌≤◌, ◌<◌, Bool, true, false, List, [], ◌∷◌, ◌++◌, length, reverse, take, drop, get_or, find, Option, Some, None, refl, sym, ap, ◌∙◌, arith, if◌then◌else◌}
-use Rattle.std.specs.Prelude.{IfSome}
+use Rattle.std.proofs.Common.{◌≡◌, ℕ, zero, suc, ◌+◌, ◌-◌, ◌≤◌, ◌<◌, Bool, true, false, List, [], ◌∷◌, ◌++◌, length, reverse, take, drop, get_or, find, Option, Some, None, refl, sym, ap, ◌∙◌, subst, arith, if◌then◌else◌}
+use Rattle.std.specs.Prelude.{IfSome, IfOk, IfErr, IsUtf8, Result, Ok, Err}
 use Rattle.std.specs.Option.{option_map}
+use Rattle.std.specs.declared.io.Error.{Error as IoError}
 use Rattle.std.proofs.lemmas.List.{take_more, reverse-append}
 use Rattle.syntect_grammar_limits.specs.syntect_base.Limiting.{limit_of, IsWithinLimit}
+use Rattle.syntect_grammar_limits.specs.syntect_base.Trees.{Answer, begins, RefusesLine}
 use Rattle.syntect_grammar_limits.specs.syntect_base.declared.limits.Limits.{Limits}
 use Rattle.syntect_grammar_limits.specs.syntect_count.Meter.{Reading, Advances, StopsAt}
 use Rattle.syntect_grammar_limits.specs.syntect_count.declared.stop.Stop.{Stop}
 use Rattle.syntect_grammar_limits.specs.syntect_count.declared.stop.Stop.TheVariants as stop
-use Rattle.syntect_grammar.specs.Finding.{fits_line, last_fitting}
+use Rattle.syntect_grammar.proofs.FindLaws.{told_by_line, no_line}
+use Rattle.syntect_grammar.specs.Finding.{fits_line, last_fitting, without_mark, found_by_file_name, found_by_first_line, IsFoundFor, NotFoundFor}
 use Rattle.syntect_grammar.specs.Link.{syntaxes_in}
+use Rattle.syntect_grammar_limits.specs.syntect_grammar_contexts.declared.syntax_reference.SyntaxReference.{SyntaxReference}
+use Rattle.syntect_grammar.specs.Passing.{from_io}
+use Rattle.syntect_grammar.specs.declared.error.Error.{Error}
 use Rattle.syntect_grammar.specs.declared.syntax_set.SyntaxSet.{SyntaxSet}
-use Rattle.syntect_grammar_limits.specs.FirstLines.{NoneBehind, ReachesSteps, StopsSearch, stopped}
+use Rattle.syntect_grammar_limits.specs.FirstLines.{NoneBehind, NotFoundWithin, ReachesSteps, StopsSearch, stopped}
 use Rattle.syntect_grammar_limits.specs.declared.first_line_error.FindWithinError.{FindWithinError}
 use Rattle.syntect_grammar_limits.specs.declared.first_line_error.FindWithinError.TheVariants.{Refused, LimitReached}
 
@@ -118,3 +124,22 @@ stops_search r stop.Spent index h = h
 pub stops_behind : (set : SyntaxSet) (line : List ℕ) (s : Stop) (index : ℕ) → index < length (syntaxes_in set) → last_fitting (fits_line line) (drop (index + 1) (syntaxes_in set)) ≡ None → NoneBehind set line (stopped s index)
 stops_behind set line stop.Memory index l h = refl
 stops_behind set line stop.Spent index l h = (l, h)
+
+-- ---- syntaxes of files ----
+
+module _ (Told : Answer → Type 0) (set : SyntaxSet) (path text : List ℕ) (same : text ≡ path) (none : found_by_file_name set path ≡ None) where
+  pub no_first_line : (e : IoError) (r : Error) → r ≡ from_io e → RefusesLine Told text e → NotFoundWithin Told set path (Refused r)
+  no_first_line e r q h = no_line Told set path text same none e r q h
+
+  module _ (line : List ℕ) (utf8 : IsUtf8 line) (told : Told (begins text line)) where
+    pub line_tells : {X : Type 0} (copied : X → Option SyntaxReference) (r : Result X FindWithinError) → IfOk r (λ found. copied found ≡ found_by_first_line set line) → IfOk r (λ found. IsFoundFor Told set path (copied found))
+    line_tells copied (Ok found) h = told_by_line Told set path text same none line (copied found) utf8 told h
+    line_tells copied (Err e) h = tt
+
+    line_refused : (e : FindWithinError) → NoneBehind set (without_mark line) e → NotFoundWithin Told set path e
+    line_refused (Refused e) h = subst (NotFoundFor Told set path) (sym h) none
+    line_refused (LimitReached l) h = (none, (line, subst (λ (p : List ℕ). Told (begins p line)) same told, h))
+
+    pub line_tells_none : {X : Type 0} (r : Result X FindWithinError) → IfErr r (NoneBehind set (without_mark line)) → IfErr r (NotFoundWithin Told set path)
+    line_tells_none (Ok found) h = tt
+    line_tells_none (Err e) h = line_refused e h

@@ -1,7 +1,10 @@
 -- Definitions from files, within limits.
-use Rattle.std.specs.Prelude.{◌≡◌, ℕ, ◌-◌, ◌^◌, ◌==◌, nat_le, if◌then◌else◌, Bool, List, length, Option, Some, None, IsUtf8, Ok, Err, String, string_bytes}
+use Rattle.std.specs.Prelude.{◌≡◌, ◌≢◌, ℕ, ◌-◌, ◌^◌, ◌==◌, nat_le, if◌then◌else◌, Bool, List, length, Option, Some, None, IsUtf8, Ok, Err, String, string_bytes}
 use Rattle.std.specs.Global.{Global}
+use Rattle.std.specs.IoError.{error_kind}
 use Rattle.std.specs.declared.io.Error.{Error}
+use Rattle.std.specs.declared.io.ErrorKind.TheVariants.{OutOfMemory}
+use Rattle.syntect_grammar_limits.specs.syntect_base.Trees.{Answer, has_bytes, RefusesText}
 use Rattle.syntect_grammar_limits.specs.syntect_base.declared.limits.Limits.{Limits}
 use Rattle.syntect_grammar_limits.specs.syntect_base.declared.limits.LimitReached.{LimitReached as AReached}
 use Rattle.syntect_grammar_limits.specs.syntect_base.declared.limits.LimitReached.TheVariants.{Folder}
@@ -43,26 +46,37 @@ pub data RefusesSyntaxWithin (limits : Limits) (newlines : Bool) (path bytes : L
       → RefusesSyntaxWithin limits newlines path bytes repo (LimitReached r shown)
   no_memory : RefusesSyntaxWithin limits newlines path bytes repo (Refused Memory)
 
--- the definition of a file of this path within limits, and the room that its bytes
--- leave of this one
-abbrev pub IsReadWithin : Limits → Bool → List ℕ → List (List ℕ) → ℕ → List (List ℕ) → ℕ
-    → SyntaxDefinition → Type 0
-IsReadWithin limits newlines path old room new left d =
+-- Why the bytes of a file of this path give no definition within limits, where the grammars of its
+-- folder may have so many bytes more: they are more than those; or they give none; or there was no
+-- memory.
+pub data RefusesCounted (limits : Limits) (newlines : Bool) (path bytes : List ℕ)
+    (repo : List (List ℕ)) (room : ℕ) : FolderWithinError → Type 0 where
+  past_folder : {shown : String Global} → IsUtf8 bytes
+      → room_after room (length bytes) ≡ None → string_bytes shown ≡ path
+      → RefusesCounted limits newlines path bytes repo room (LimitReached Folder shown)
+  refused : {left : ℕ} {e : FolderWithinError} → room_after room (length bytes) ≡ Some left
+      → RefusesSyntaxWithin limits newlines path bytes repo e
+      → RefusesCounted limits newlines path bytes repo room e
+  no_room : RefusesCounted limits newlines path bytes repo room (Refused Memory)
+
+-- the definition of the bytes that were read of a file, within limits, and the room that they leave
+-- of this one
+abbrev pub IsReadWithin : (Told : Answer → Type 0) → Limits → Bool → List ℕ → List (List ℕ) → ℕ
+    → List (List ℕ) → ℕ → SyntaxDefinition → Type 0
+IsReadWithin Told limits newlines path old room new left d =
     (bytes : List ℕ)
+    × Told (has_bytes path bytes)
     × (room_after room (length bytes) ≡ Some left)
     × IsSyntaxWithin limits newlines path old bytes new d
 
 -- Why a file gives no definition within limits, where the grammars of its folder may have so many
--- bytes more: it is not read; or it has more bytes than those; or its bytes give none; or there was
--- no memory.
-pub data RefusesReadWithin (limits : Limits) (newlines : Bool) (path : List ℕ)
-    (repo : List (List ℕ)) (room : ℕ) : FolderWithinError → Type 0 where
-  not_read : {e : Error} → RefusesReadWithin limits newlines path repo room (Refused (Io e))
-  past_folder : {bytes : List ℕ} {shown : String Global} → IsUtf8 bytes
-      → room_after room (length bytes) ≡ None → string_bytes shown ≡ path
-      → RefusesReadWithin limits newlines path repo room (LimitReached Folder shown)
-  refused : {bytes : List ℕ} {left : ℕ} {e : FolderWithinError}
-      → room_after room (length bytes) ≡ Some left
-      → RefusesSyntaxWithin limits newlines path bytes repo e
-      → RefusesReadWithin limits newlines path repo room e
-  no_room : RefusesReadWithin limits newlines path repo room (Refused Memory)
+-- bytes more, by what calls on its tree told: it gives no text, for a fault that is not that memory
+-- ran out; or the bytes that were read give none; or there was no memory.
+pub data RefusesReadWithin (Told : Answer → Type 0) (limits : Limits) (newlines : Bool)
+    (path : List ℕ) (repo : List (List ℕ)) (room : ℕ) : FolderWithinError → Type 0 where
+  not_read : {e : Error} → RefusesText Told path e → error_kind e ≢ OutOfMemory
+      → RefusesReadWithin Told limits newlines path repo room (Refused (Io e))
+  of_bytes : {bytes : List ℕ} {e : FolderWithinError} → Told (has_bytes path bytes)
+      → RefusesCounted limits newlines path bytes repo room e
+      → RefusesReadWithin Told limits newlines path repo room e
+  no_memory_here : RefusesReadWithin Told limits newlines path repo room (Refused Memory)

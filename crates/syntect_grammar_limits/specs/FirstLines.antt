@@ -1,6 +1,7 @@
 -- Syntaxes that are looked for within a limit.
 use Rattle.std.specs.Prelude.{◌≡◌, ◌<◌, ◌+◌, ℕ, List, length, drop, Some, None, Option}
 use Rattle.syntect_grammar_limits.specs.syntect_base.Limiting.{limit_of}
+use Rattle.syntect_grammar_limits.specs.syntect_base.Trees.{Answer, begins}
 use Rattle.syntect_grammar_limits.specs.syntect_base.declared.limits.Limits.{Limits}
 use Rattle.syntect_grammar.specs.Finding.{NotFoundFor, fits_line, found_by_file_name, last_fitting, without_mark}
 use Rattle.syntect_grammar.specs.Link.{syntaxes_in}
@@ -31,11 +32,13 @@ ReachesSteps limits steps (Refused e) = Unit {0}
 ReachesSteps limits steps (LimitReached l) = limit_of limits.steps ≡ Some steps
 
 -- the same of a file, whose path tells nothing
-abbrev pub NotFoundWithin : SyntaxSet → List ℕ → FindWithinError → Type 0
-NotFoundWithin set path (Refused e) = NotFoundFor set path e
-NotFoundWithin set path (LimitReached l) =
+abbrev pub NotFoundWithin : (Told : Answer → Type 0) → SyntaxSet → List ℕ → FindWithinError
+    → Type 0
+NotFoundWithin Told set path (Refused e) = NotFoundFor Told set path e
+NotFoundWithin Told set path (LimitReached l) =
     (found_by_file_name set path ≡ None)
-    × ((line : List ℕ) × NoneFitsBehind set (without_mark line) l.syntax)
+    × ((line : List ℕ) × Told (begins path line)
+    × NoneFitsBehind set (without_mark line) l.syntax)
 
 -- ---- For proofs and private functions alone ----
 

@@ -6,7 +6,7 @@ pub use syntect_grammar::below::{
 
 /// Of `syntect_base`.
 pub mod base {
-    pub use syntect_grammar::below::base::{limits, loading, syntax, utils};
+    pub use syntect_grammar::below::base::{limits, loading, syntax, tree, utils};
 }
 
 /// Of `syntect_grammar`.

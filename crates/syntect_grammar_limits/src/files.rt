@@ -1,9 +1,9 @@
 //! Definitions from files, within limits.
-ghost use Rattle.std.specs.Prelude.{◌≡◌, ℕ, Bool, IsUtf8, List, length, IfOk, Err, IfErr, None};
+ghost use Rattle.std.specs.Prelude.{◌≡◌, ℕ, Bool, IsUtf8, List, length, IfOk, Err, IfErr, Some, None};
 ghost use Rattle.std.specs.Path.{path_file_stem};
 ghost use Rattle.syntect_grammar_limits.specs.syntect_base.declared.limits.Limits.{Limits as ALimits};
 ghost use Rattle.syntect_grammar_limits.specs.FilesWithin as files_within;
-ghost use Rattle.syntect_grammar_limits.specs.FilesWithin.{IsSyntaxWithin, RefusesSyntaxWithin, IsReadWithin, RefusesReadWithin};
+ghost use Rattle.syntect_grammar_limits.specs.FilesWithin.{IsSyntaxWithin, RefusesSyntaxWithin, RefusesCounted, IsReadWithin, RefusesReadWithin};
 ghost use Rattle.syntect_grammar_limits.specs.syntect_base.declared.loading.LoadingError.TheVariants.{Memory as NoMemory};
 ghost use Rattle.syntect_grammar_limits.specs.syntect_base.declared.syntax.ParseSyntaxError.TheVariants.{Memory};
 ghost use Rattle.syntect_grammar_limits.specs.syntect_grammar_loader.Files.{RefusesSyntax};
@@ -14,14 +14,13 @@ ghost use Rattle.syntect_grammar_limits.specs.Limited.{left_of, LoadsWithin};
 use crate::below::base::limits::{LimitReached, Limits, LoadWithinError};
 use crate::below::base::loading::LoadingError;
 use crate::below::base::syntax::ParseSyntaxError;
+use crate::below::base::tree::{Tree, read_text};
 use crate::below::grammar_loader::definition::SyntaxDefinition;
 use crate::below::scope::repository::ScopeRepository;
 use crate::folder_error::FolderWithinError;
 use crate::within::load_from_str_within;
 use std::alloc::Global;
 use std::path::Path;
-use std::rt::Files;
-use std::{fs, io};
 
 /// The refusal of the text in a file that is no grammar, with the file's path. Lack of memory is
 /// passed on as such.
@@ -103,7 +102,7 @@ fn past_folder(alloc: Global, path: &str) -> FolderWithinError
     ensures { (limits : ALimits) (newlines : Bool) (repo : List (List ℕ)) (room : ℕ)
         (bytes : List ℕ) → IsUtf8 bytes
         → files_within.room_after room (length bytes) ≡ None
-        → RefusesReadWithin limits newlines path.now repo room result }
+        → RefusesCounted limits newlines path.now bytes repo room result }
 {
     match String::from_str(alloc, path) {
         Ok(path) => FolderWithinError::LimitReached(LimitReached::Folder, path),
@@ -121,9 +120,11 @@ fn load_counted(
     limits: &Limits,
     room: &mut usize,
 ) -> Result<SyntaxDefinition, FolderWithinError>
-    ensures ok { IfOk result (IsReadWithin limits.now lines_include_newline path.now
-        repository.old room.old repository.new room.new) }
-    ensures err { IfErr result (RefusesReadWithin limits.now lines_include_newline path.now
+    ensures room { IfOk result (λ _.
+        files_within.room_after room.old (length text.now) ≡ Some room.new) }
+    ensures ok { IfOk result (IsSyntaxWithin limits.now lines_include_newline path.now
+        repository.old text.now repository.new) }
+    ensures err { IfErr result (RefusesCounted limits.now lines_include_newline path.now text.now
         repository.old room.old) }
     ensures kept { KeepsAtoms repository.old repository.new }
 {
@@ -134,23 +135,26 @@ fn load_counted(
     load_text(alloc, path, text, lines_include_newline, repository, limits)
 }
 
-/// The definition of the text that was read from a file, unless reading has a fault.
-fn load_read(
+/// The definition of the grammar in a file, within limits, and how many bytes more the grammars of
+/// its folder may have then. One that cannot be read, or isn't UTF-8, is `Io`, one that is no
+/// grammar is `ParseSyntax` with its path, and one that would pass a limit is `LimitReached` with
+/// its path.
+pub(crate) fn load_file_within<T: Tree>(
+    tree: &T,
     alloc: Global,
     path: &str,
-    read: Result<String, io::Error>,
     lines_include_newline: bool,
     repository: &mut ScopeRepository,
     limits: &Limits,
     room: &mut usize,
 ) -> Result<SyntaxDefinition, FolderWithinError>
-    ensures ok { IfOk result (IsReadWithin limits.now lines_include_newline path.now
-        repository.old room.old repository.new room.new) }
-    ensures err { IfErr result (RefusesReadWithin limits.now lines_include_newline path.now
-        repository.old room.old) }
+    ensures ok { IfOk result (IsReadWithin (T.told tree.now) limits.now lines_include_newline
+        path.now repository.old room.old repository.new room.new) }
+    ensures err { IfErr result (RefusesReadWithin (T.told tree.now) limits.now
+        lines_include_newline path.now repository.old room.old) }
     ensures kept { KeepsAtoms repository.old repository.new }
 {
-    match read {
+    match read_text(tree, alloc, path) {
         Ok(text) => load_counted(
             alloc,
             path,
@@ -162,38 +166,4 @@ fn load_read(
         ),
         Err(e) => Err(FolderWithinError::Refused(LoadingError::from(e))),
     }
-}
-
-/// The definition of the grammar in a file, within limits, and how many bytes more the grammars of
-/// its folder may have then. One that cannot be read, or isn't UTF-8, is `Io`, one that is no
-/// grammar is `ParseSyntax` with its path, and one that would pass a limit is `LimitReached` with
-/// its path.
-pub(crate) fn load_file_within(
-    files: &impl Files,
-    alloc: Global,
-    path: &str,
-    lines_include_newline: bool,
-    repository: &mut ScopeRepository,
-    limits: &Limits,
-    room: &mut usize,
-) -> Result<SyntaxDefinition, FolderWithinError>
-    ensures ok { IfOk result (IsReadWithin limits.now lines_include_newline path.now
-        repository.old room.old repository.new room.new) }
-    ensures err { IfErr result (RefusesReadWithin limits.now lines_include_newline path.now
-        repository.old room.old) }
-    ensures kept { KeepsAtoms repository.old repository.new }
-{
-    let read = match fs::open(files, path) {
-        Ok(file) => io::read_to_string(alloc, file),
-        Err(e) => Err(e),
-    };
-    load_read(
-        alloc,
-        path,
-        read,
-        lines_include_newline,
-        repository,
-        limits,
-        room,
-    )
 }

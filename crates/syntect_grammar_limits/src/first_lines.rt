@@ -1,15 +1,16 @@
 //! Syntaxes by first lines.
-ghost use Rattle.std.specs.Prelude.{◌≡◌, ◌+◌, ◌-◌, ◌≤◌, ℕ, List, IsUtf8, IfErr, IfOk};
+ghost use Rattle.std.specs.Prelude.{◌≡◌, ◌-◌, ◌≤◌, IfErr, IfOk};
 ghost use Rattle.std.specs.Option.{option_copied};
 ghost use Rattle.std.specs.Path.{path_bytes};
 ghost use Rattle.syntect_grammar_limits.specs.syntect_base.Limiting.{IsWithinLimit, limit_of};
-ghost use Rattle.syntect_grammar.specs.Finding.{found_by_first_line, found_for_file, last_fitting, without_mark};
+ghost use Rattle.syntect_grammar.specs.Finding.{found_by_first_line, IsFoundFor, last_fitting, without_mark};
 ghost use Rattle.syntect_grammar.specs.Finding as finding;
 ghost use Rattle.syntect_grammar_limits.specs.syntect_count.Meter.{Advances, StopsAt};
 ghost use Rattle.syntect_grammar_limits.specs.FirstLines.{NoneBehind, NotFoundWithin, ReachesSteps, StopsSearch};
 ghost use Rattle.syntect_grammar.specs.Link.{syntaxes_in};
 
 use crate::below::base::limits::Limits;
+use crate::below::base::tree::{Tree, first_line};
 use crate::below::count::count::GhostCount;
 use crate::below::count::counts::add;
 use crate::below::count::meter::Meter;
@@ -18,9 +19,8 @@ use crate::below::regexes::region::Region;
 use crate::first_line_error::{FindWithinError, stopped};
 use std::alloc::Global;
 use std::path::Path;
-use std::rt::Files;
 use syntect_grammar::error::Error;
-use syntect_grammar::finders::{first_line, without_mark};
+use syntect_grammar::finders::without_mark;
 use syntect_grammar::syntax_set::{SyntaxReference, SyntaxSet};
 
 /// A meter of as many steps as the limit says, if it is one.
@@ -114,18 +114,18 @@ pub fn find_syntax_by_first_line_within<'s>(
 /// The file is opened, and its line read, only where its path tells nothing.
 ///
 /// `Refused` as that call is; `LimitReached` as `find_syntax_by_first_line_within` is.
-pub fn find_syntax_for_file_within<'s>(
-    files: &impl Files,
+pub fn find_syntax_for_file_within<'s, T: Tree>(
+    tree: &T,
     alloc: Global,
     set: &'s SyntaxSet,
     path: Path<'_>,
     limits: &Limits,
     count: &mut GhostCount,
 ) -> Result<Option<&'s SyntaxReference>, FindWithinError>
-    // of what the file holds nothing is known but that its first line is a text
-    ensures found { IfOk result (λ found. (line : List ℕ) × IsUtf8 line
-        × (option_copied found ≡ found_for_file set.now (path_bytes path.entry) line)) }
-    ensures refused { IfErr result (NotFoundWithin set.now (path_bytes path.entry)) }
+    ensures found { IfOk result (λ found.
+        IsFoundFor (T.told tree.now) set.now (path_bytes path.entry) (option_copied found)) }
+    ensures refused { IfErr result
+        (NotFoundWithin (T.told tree.now) set.now (path_bytes path.entry)) }
     ensures no_fewer { count.old.made ≤ count.new.made }
     ensures few_steps { IsWithinLimit limits.now.steps (count.new.made - count.old.made) }
     ensures reached { IfErr result
@@ -134,7 +134,7 @@ pub fn find_syntax_for_file_within<'s>(
     if let Some(syntax) = set.find_syntax_by_file_name(path) {
         return Ok(Some(syntax));
     }
-    let line = match first_line(files, alloc, path) {
+    let line = match first_line(tree, alloc, path.as_str()) {
         Ok(line) => line,
         Err(e) => return Err(FindWithinError::Refused(Error::from(e))),
     };

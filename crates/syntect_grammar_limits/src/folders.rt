@@ -7,6 +7,7 @@ ghost use Rattle.syntect_grammar_limits.specs.syntect_grammar_loader.LoadingStep
 
 use crate::below::base::limits::Limits;
 use crate::below::base::loading::LoadingError;
+use crate::below::base::tree::Tree;
 use crate::below::base::utils::{Sought, Walk};
 use crate::below::scope::repository::ScopeRepository;
 use crate::below::values::text::Text;
@@ -14,7 +15,6 @@ use crate::files::load_file_within;
 use crate::folder_error::FolderWithinError;
 use std::alloc::Global;
 use std::path::Path;
-use std::rt::Files;
 use syntect_grammar::folders::{is_grammar, is_metadata};
 use syntect_grammar::syntax_set::SyntaxSetBuilder;
 
@@ -27,8 +27,8 @@ pub(crate) struct Loading {
 
 /// Adds the grammar of a file to a builder, where its folder's grammars may have
 /// so many bytes more.
-fn add_grammar(
-    files: &impl Files,
+fn add_grammar<T: Tree>(
+    tree: &T,
     alloc: Global,
     builder: &mut SyntaxSetBuilder,
     path: &str,
@@ -37,15 +37,16 @@ fn add_grammar(
     room: &mut usize,
 ) -> Result<(), FolderWithinError>
     requires { is_grammar_path path.now ≡ true }
-    ensures ok { OnOk result (AddsWithin loading.now.limits loading.now.lines_include_newline
-        room.old (path.now ∷ []) repository.old builder.old room.new repository.new builder.new) }
+    ensures ok { OnOk result (AddsWithin (T.told tree.now) loading.now.limits
+        loading.now.lines_include_newline room.old (path.now ∷ []) repository.old builder.old
+        room.new repository.new builder.new) }
     ensures err { OnErr result (builder.new ≡ builder.old) }
-    ensures refusal { IfErr result (StopsWithin loading.now.limits
+    ensures refusal { IfErr result (StopsWithin (T.told tree.now) loading.now.limits
         loading.now.lines_include_newline path.now repository.old room.old) }
     ensures kept { KeepsAtoms repository.old repository.new }
 {
     let syntax = match load_file_within(
-        files,
+        tree,
         alloc,
         path,
         loading.lines_include_newline,
@@ -66,8 +67,8 @@ fn add_grammar(
 }
 
 /// Adds what is in a file, if it is a grammar's or has metadata.
-pub(crate) fn add_file(
-    files: &impl Files,
+pub(crate) fn add_file<T: Tree>(
+    tree: &T,
     alloc: Global,
     builder: &mut SyntaxSetBuilder,
     path: &str,
@@ -75,20 +76,21 @@ pub(crate) fn add_file(
     repository: &mut ScopeRepository,
     room: &mut usize,
 ) -> Result<(), FolderWithinError>
-    ensures ok { OnOk result (AddsWithin loading.now.limits loading.now.lines_include_newline
-        room.old (path.now ∷ []) repository.old builder.old room.new repository.new builder.new) }
+    ensures ok { OnOk result (AddsWithin (T.told tree.now) loading.now.limits
+        loading.now.lines_include_newline room.old (path.now ∷ []) repository.old builder.old
+        room.new repository.new builder.new) }
     ensures err { OnErr result (builder.new ≡ builder.old) }
-    ensures refusal { IfErr result (StopsWithin loading.now.limits
+    ensures refusal { IfErr result (StopsWithin (T.told tree.now) loading.now.limits
         loading.now.lines_include_newline path.now repository.old room.old) }
     ensures kept { KeepsAtoms repository.old repository.new }
 {
     if is_grammar(path) {
-        return add_grammar(files, alloc, builder, path, loading, repository, room);
+        return add_grammar(tree, alloc, builder, path, loading, repository, room);
     }
     if !is_metadata(path) {
         return Ok(());
     }
-    match builder.add_metadata(files, alloc, path) {
+    match builder.add_metadata(tree, alloc, path) {
         Ok(()) => Ok(()),
         Err(e) => Err(FolderWithinError::Refused(e)),
     }
@@ -100,8 +102,8 @@ pub(crate) fn add_file(
 /// A grammar that would pass one is `LimitReached` with the path of its file; any other refusal is
 /// that of `add_from_folder`. The bytes of a file are counted with those of the grammars before it
 /// once it is read, and before it is parsed. What is before the first fault stays added.
-pub fn add_from_folder_within(
-    files: &impl Files,
+pub fn add_from_folder_within<T: Tree>(
+    tree: &T,
     alloc: Global,
     builder: &mut SyntaxSetBuilder,
     folder: Path<'_>,
@@ -109,10 +111,12 @@ pub fn add_from_folder_within(
     repository: &mut ScopeRepository,
     limits: &Limits,
 ) -> Result<(), FolderWithinError>
-    ensures ok { OnOk result (AddsFolderWithin limits.now lines_include_newline
-        (path_bytes folder.entry) repository.old builder.old repository.new builder.new) }
-    ensures err { IfErr result (λ e. RefusesFolderWithin limits.now lines_include_newline
-        (path_bytes folder.entry) repository.old builder.old e repository.new builder.new) }
+    ensures ok { OnOk result (AddsFolderWithin (T.told tree.now) limits.now
+        lines_include_newline (path_bytes folder.entry) repository.old builder.old
+        repository.new builder.new) }
+    ensures err { IfErr result (λ e. RefusesFolderWithin (T.told tree.now) limits.now
+        lines_include_newline (path_bytes folder.entry) repository.old builder.old e
+        repository.new builder.new) }
     ensures kept { KeepsAtoms repository.old repository.new }
 {
     let loading = Loading {
@@ -120,18 +124,18 @@ pub fn add_from_folder_within(
         limits: *limits,
     };
     let mut room = limits.folder;
-    let mut walk = match Walk::new(files, alloc, folder, Sought::Grammars) {
+    let mut walk = match Walk::new(tree, alloc, folder, Sought::Grammars) {
         Ok(walk) => walk,
         Err(e) => return Err(FolderWithinError::Refused(e)),
     };
     'files: loop {
-        let path = match walk.next_file(files, alloc) {
+        let path = match walk.next_file(tree, alloc) {
             Ok(Some(path)) => path,
             Ok(None) => return Ok(()),
             Err(e) => return Err(FolderWithinError::Refused(e)),
         };
         match add_file(
-            files,
+            tree,
             alloc,
             builder,
             path.as_str(),

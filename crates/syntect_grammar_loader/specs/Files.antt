@@ -1,8 +1,11 @@
 -- Definitions from files.
-use Rattle.std.specs.Prelude.{◌≡◌, ℕ, Bool, List, IsUtf8, Option, Some, IfSome, Ok, Err, String, string_bytes}
+use Rattle.std.specs.Prelude.{◌≡◌, ◌≢◌, ℕ, Bool, List, IsUtf8, Some, Ok, Err, String, string_bytes}
 use Rattle.std.specs.Global.{Global}
 use Rattle.std.specs.Path.{path_file_stem}
+use Rattle.std.specs.IoError.{error_kind}
 use Rattle.std.specs.declared.io.Error.{Error}
+use Rattle.std.specs.declared.io.ErrorKind.TheVariants.{OutOfMemory}
+use Rattle.syntect_base.specs.Trees.{Answer, has_bytes, RefusesText}
 use Rattle.syntect_base.specs.declared.loading.LoadingError.{LoadingError}
 use Rattle.syntect_base.specs.declared.loading.LoadingError.TheVariants.{Io, ParseSyntax, Memory}
 use Rattle.syntect_base.specs.declared.syntax.ParseSyntaxError.{ParseSyntaxError}
@@ -27,10 +30,12 @@ pub data RefusesSyntax (newlines : Bool) (path bytes : List ℕ) (repo : List (L
       → RefusesSyntax newlines path bytes repo (ParseSyntax e shown)
   no_memory : RefusesSyntax newlines path bytes repo Memory
 
--- why what a reader has left, where that is known, gives no syntax: reading has a fault, or the
--- bytes are no grammar's
-pub data RefusesRead (newlines : Bool) (path : List ℕ) (left : Option (List ℕ))
+-- Why a file gives no syntax, by what calls on its tree told: it gives no text, for a fault that is
+-- not that memory ran out; or the bytes that were read are no grammar's; or there was no memory.
+pub data RefusesRead (Told : Answer → Type 0) (newlines : Bool) (path : List ℕ)
     (repo : List (List ℕ)) : LoadingError → Type 0 where
-  not_read : {e : Error} → RefusesRead newlines path left repo (Io e)
-  refused : {bytes : List ℕ} {e : LoadingError} → IfSome left (λ xs. bytes ≡ xs)
-      → RefusesSyntax newlines path bytes repo e → RefusesRead newlines path left repo e
+  not_read : {e : Error} → RefusesText Told path e → error_kind e ≢ OutOfMemory
+      → RefusesRead Told newlines path repo (Io e)
+  refused : {bytes : List ℕ} {e : LoadingError} → Told (has_bytes path bytes)
+      → RefusesSyntax newlines path bytes repo e → RefusesRead Told newlines path repo e
+  no_room : RefusesRead Told newlines path repo Memory

@@ -4,7 +4,7 @@ pub use syntect_grammar_contexts::below::regexes;
 
 /// Of `syntect_base`.
 pub mod base {
-    pub use syntect_base::{limits, loading, syntax, theme, utils};
+    pub use syntect_base::{limits, loading, syntax, theme, tree, utils};
 }
 
 /// Of `syntect_grammar_rewrite`.

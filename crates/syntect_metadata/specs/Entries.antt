@@ -1,5 +1,5 @@
 -- Entries of metadata, as files have them.
-use Rattle.std.specs.Prelude.{◌≡◌, ◌≢◌, ℕ, List, codes, Bool, ◌&&◌, false, Option, Some, None, IfSome, option_and_then, is_some}
+use Rattle.std.specs.Prelude.{◌≡◌, ◌≢◌, ℕ, List, codes, Bool, ◌&&◌, false, Option, Some, option_and_then, is_some}
 use Rattle.std.specs.IoError.{error_kind}
 use Rattle.std.specs.declared.io.Error.{Error}
 use Rattle.std.specs.declared.io.ErrorKind.TheVariants.{OutOfMemory}
@@ -7,6 +7,7 @@ use Rattle.serde_json.specs.Data.{Data, Members}
 use Rattle.serde_json.specs.Find.{get, as_str, as_object}
 use Rattle.serde_json.specs.View.{members_view}
 use Rattle.syntect_base.specs.Settings.{IsSettings}
+use Rattle.syntect_base.specs.Trees.{Answer, has_bytes, not_read}
 use Rattle.syntect_base.specs.declared.loading.LoadingError.{LoadingError}
 use Rattle.syntect_base.specs.declared.loading.LoadingError.TheVariants.{Io, ParseMetadata, ReadSettings, Memory}
 use Rattle.syntect_base.specs.declared.loading.SettingsError.TheVariants.{Json}
@@ -43,16 +44,14 @@ pub data RefusesEntry (bytes : List ℕ) : LoadingError → Type 0 where
   no_entry : {d : Data} → IsSettings bytes d → is_entry d ≡ false → RefusesEntry bytes ParseMetadata
   no_memory : RefusesEntry bytes Memory
 
--- why what a reader has left, where that is known, gives no entry: reading has a fault, which is
--- not that memory ran out, or the bytes give none
-pub data RefusesRead (left : Option (List ℕ)) : LoadingError → Type 0 where
-  not_read : {e : Error} → error_kind e ≢ OutOfMemory → RefusesRead left (Io e)
-  refused : {bytes : List ℕ} {e : LoadingError} → IfSome left (λ xs. bytes ≡ xs)
-      → RefusesEntry bytes e → RefusesRead left e
-
--- why a file gives no entry
-abbrev pub IsEntryFault : LoadingError → Type 0
-IsEntryFault e = RefusesRead None e
+-- Why a file gives no entry, by what calls on its tree told: it was not read, for a fault that is
+-- not that memory ran out; or the bytes that were read give none; or there was no memory.
+pub data IsEntryFault (Told : Answer → Type 0) (path : List ℕ) : LoadingError → Type 0 where
+  file_unread : {e : Error} → Told (not_read path e) → error_kind e ≢ OutOfMemory
+      → IsEntryFault Told path (Io e)
+  file_refused : {bytes : List ℕ} {e : LoadingError} → Told (has_bytes path bytes)
+      → RefusesEntry bytes e → IsEntryFault Told path e
+  file_no_room : IsEntryFault Told path Memory
 
 -- the same path and scope text, and the same settings as values
 pub record AreAlike (one other : RawMetadataEntry) : Type 0 where

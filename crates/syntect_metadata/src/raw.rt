@@ -1,24 +1,22 @@
 //! Entries of metadata, as files have them.
-ghost use Rattle.std.specs.Prelude.{◌≡◌, ◌≢◌, ◌++◌, ◌∷◌, [], ℕ, List, false, codes, option_map, option_and_then, IfSome, IfOk, OnOk, IfErr, IsErrAnd, OnErr};
+ghost use Rattle.std.specs.Prelude.{◌≡◌, ◌≢◌, ◌++◌, ◌∷◌, [], ℕ, List, false, codes, option_map, option_and_then, IfOk, OnOk, IfErr, OnErr};
 ghost use Rattle.std.specs.List.{AllZip};
 ghost use Rattle.std.specs.Path.{path_bytes};
 ghost use Rattle.serde_json.specs.Find.{get, as_object};
 ghost use Rattle.serde_json.specs.View.{view, members_view};
-ghost use Rattle.syntect_base.specs.Refusals.{IsReadFault};
+ghost use Rattle.syntect_base.specs.Trees.{has_bytes};
 ghost use Rattle.syntect_base.specs.declared.loading.LoadingError.{LoadingError};
-ghost use Rattle.syntect_metadata.specs.Entries.{is_entry, IsEntry, IsEntryOf, RefusesEntry, RefusesRead, IsEntryFault, AreAlike};
+ghost use Rattle.syntect_metadata.specs.Entries.{is_entry, IsEntry, IsEntryOf, RefusesEntry, IsEntryFault, AreAlike};
 
 use crate::below::values::seq::Seq;
 use crate::below::values::text::Text;
 use crate::values::member_of;
 use serde_json::{Map, Value};
 use std::alloc::{AllocError, Global};
-use std::io::{BufReader, Read};
 use std::path::Path;
-use std::rt::Files;
-use std::{fs, io};
 use syntect_base::loading::LoadingError;
 use syntect_base::settings::settings_of;
+use syntect_base::tree::Tree;
 
 /// What a file of metadata has: settings for the scopes that selectors match.
 pub struct RawMetadataEntry {
@@ -94,62 +92,26 @@ fn entry_of(alloc: Global, path: Path<'_>, bytes: &[u8]) -> Result<RawMetadataEn
     entry_in(alloc, path, settings)
 }
 
-/// The entry of the bytes that were read from a file, unless reading has a fault.
-fn entry_read(
-    alloc: Global,
-    path: Path<'_>,
-    read: Result<usize, io::Error>,
-    bytes: &[u8],
-) -> Result<RawMetadataEntry, LoadingError>
-    ensures ok { IfOk result (IsEntryOf (path_bytes path.entry) bytes.now) }
-    ensures fault { IfErr read (λ fault. IsErrAnd result (IsReadFault fault)) }
-    ensures err { OnOk read (IfErr result (RefusesEntry bytes.now)) }
-{
-    match read {
-        Ok(_count) => entry_of(alloc, path, bytes),
-        Err(e) => Err(LoadingError::from(e)),
-    }
-}
-
-/// The entry of what a reader of a file has left, unless reading has a fault.
-fn entry_from<R: Read>(
-    alloc: Global,
-    path: Path<'_>,
-    reader: &mut R,
-) -> Result<RawMetadataEntry, LoadingError>
-    ensures ok { IfOk result (λ entry. (bytes : List ℕ)
-        × IfSome (R.remaining reader.old) (λ left. bytes ≡ left)
-        × IsEntryOf (path_bytes path.entry) bytes entry) }
-    ensures err { IfErr result (RefusesRead (R.remaining reader.old)) }
-{
-    let mut bytes = Vec::new(alloc);
-    let read = reader.read_to_end(&mut bytes);
-    entry_read(alloc, path, read, bytes.as_slice())
-}
-
 impl RawMetadataEntry {
     /// The entry in a file: the JSON of an object with a text as `scope` and an object as
     /// `settings`, in which no number is a float. A fault of the file is `Io`, other bytes are
     /// `ReadSettings`, and another value is `ParseMetadata`.
-    #[tactic(auto, using(crate::proofs::EntryLaws::fault_read, crate::proofs::EntryLaws::of_file))]
-    pub fn load(
-        files: &impl Files,
+    pub fn load<T: Tree>(
+        tree: &T,
         alloc: Global,
         path: Path<'_>,
     ) -> Result<RawMetadataEntry, LoadingError>
-        ensures ok { IfOk result (λ entry.
-            (bytes : List ℕ) × IsEntryOf (path_bytes path.entry) bytes entry) }
-        ensures err { IfErr result IsEntryFault }
+        ensures ok { IfOk result (λ entry. (bytes : List ℕ)
+            × T.told tree.now (has_bytes (path_bytes path.entry) bytes)
+            × IsEntryOf (path_bytes path.entry) bytes entry) }
+        ensures err { IfErr result
+            (IsEntryFault (T.told tree.now) (path_bytes path.entry)) }
     {
-        let file = match fs::open(files, path) {
-            Ok(file) => file,
+        let bytes = match tree.read_file(alloc, path.as_str()) {
+            Ok(bytes) => bytes,
             Err(e) => return Err(LoadingError::from(e)),
         };
-        let mut reader = match BufReader::new(alloc, file) {
-            Ok(reader) => reader,
-            Err(e) => return Err(LoadingError::from(e)),
-        };
-        entry_from(alloc, path, &mut reader)
+        entry_of(alloc, path, bytes.as_slice())
     }
 
     /// The scope text and the settings.

@@ -73,6 +73,7 @@ pub mod own {
         numbered_in, numbered_text, sheet_for_light_and_dark,
     };
     pub use syntect::explain::{why_not_loaded, why_not_read};
+    pub use syntect::tree::{Kind, Tree};
     pub use syntect::values::{Seq, Table, Text};
     pub use syntect::{Error, LoadingError};
 }

@@ -10,11 +10,13 @@ use Rattle.std.specs.declared.io.Error.{Error}
 use Rattle.std.specs.declared.io.ErrorKind.TheVariants.{OutOfMemory}
 use Rattle.serde_json.specs.Data.{Data}
 use Rattle.syntect_theme_files.specs.syntect_base.Settings.{IsSettings}
-use Rattle.syntect_theme_files.specs.syntect_base.Walks.{IsWalk, IsWalkFault}
+use Rattle.syntect_theme_files.specs.syntect_base.Trees.{Answer, has_bytes, not_read as unread}
+use Rattle.syntect_theme_files.specs.syntect_base.Walks.{IsWalk, RefusesWalk}
 use Rattle.syntect_theme_files.specs.syntect_base.declared.loading.LoadingError.{LoadingError}
 use Rattle.syntect_theme_files.specs.syntect_base.declared.loading.LoadingError.TheVariants.{Io, ParseTheme, ReadSettings, Memory}
 use Rattle.syntect_theme_files.specs.syntect_base.declared.loading.SettingsError.TheVariants.{Json}
 use Rattle.syntect_theme_files.specs.syntect_base.declared.theme.ParseThemeError.{ParseThemeError}
+use Rattle.syntect_theme_files.specs.syntect_base.declared.utils.Sought.TheVariants.{Themes}
 use Rattle.syntect_theme_files.specs.Loading.{IsTheme, head_at}
 use Rattle.syntect_theme.specs.declared.theme.Theme.{Theme}
 
@@ -42,11 +44,16 @@ pub data RefusesRead (left : Option (List ℕ)) : LoadingError → Type 0 where
   refused : {bytes : List ℕ} {e : LoadingError} → IfSome left (λ xs. bytes ≡ xs)
       → RefusesTheme bytes e → RefusesRead left e
 
--- why a file gives no theme
-abbrev pub IsThemeFault : LoadingError → Type 0
-IsThemeFault e = RefusesRead None e
-
 -- ---- files ----
+
+-- Why a file gives no theme, by what calls on its tree told: it was not read, for a fault that is
+-- not that memory ran out; or the bytes that were read give none; or there was no memory.
+pub data IsThemeFault (Told : Answer → Type 0) (path : List ℕ) : LoadingError → Type 0 where
+  file_unread : {e : Error} → Told (unread path e) → error_kind e ≢ OutOfMemory
+      → IsThemeFault Told path (Io e)
+  file_refused : {bytes : List ℕ} {e : LoadingError} → Told (has_bytes path bytes)
+      → RefusesTheme bytes e → IsThemeFault Told path e
+  file_no_room : IsThemeFault Told path Memory
 
 -- the name of the theme in a file: the file's name without its extension, which is `tmTheme` in any
 -- ASCII case
@@ -56,38 +63,39 @@ theme_name path =
     then path_file_stem path else None) (path_extension path)
 
 -- Themes of files, one after another, go into a table by their names, in place of those of the same
--- name. A file of another kind is passed over. Of what a file holds nothing is known but that it
--- gave a theme.
-pub data AddsThemes : List (List ℕ) → List (List ℕ) → List (List ℕ × Theme) → List (List ℕ)
-    → List (List ℕ × Theme) → Type 0 where
+-- name, and other files are passed over. Each theme is that of the bytes that were read of its
+-- file.
+pub data AddsThemes (Told : Answer → Type 0) : List (List ℕ) → List (List ℕ)
+    → List (List ℕ × Theme) → List (List ℕ) → List (List ℕ × Theme) → Type 0 where
   no_more : {repo : List (List ℕ)} {themes : List (List ℕ × Theme)}
-      → AddsThemes [] repo themes repo themes
+      → AddsThemes Told [] repo themes repo themes
   other : {path : List ℕ} {paths old new : List (List ℕ)} {themes all : List (List ℕ × Theme)}
       → theme_name path ≡ None
-      → AddsThemes paths old themes new all → AddsThemes (path ∷ paths) old themes new all
+      → AddsThemes Told paths old themes new all → AddsThemes Told (path ∷ paths) old themes new all
   theme : {path name bytes : List ℕ} {paths old left new : List (List ℕ)}
       {themes all : List (List ℕ × Theme)} {one : Theme} → theme_name path ≡ Some name
-      → IsThemeOf old bytes left one
-      → AddsThemes paths left (insert_entry (slice_cmp nat_cmp) themes name one) new all
-      → AddsThemes (path ∷ paths) old themes new all
+      → Told (has_bytes path bytes) → IsThemeOf old bytes left one
+      → AddsThemes Told paths left (insert_entry (slice_cmp nat_cmp) themes name one) new all
+      → AddsThemes Told (path ∷ paths) old themes new all
 
 -- The themes of these files are added up to one, which gives no theme, for this cause.
-pub record StopsAtTheme (files : List (List ℕ)) (old : List (List ℕ))
+pub record StopsAtTheme (Told : Answer → Type 0) (files : List (List ℕ)) (old : List (List ℕ))
     (themes : List (List ℕ × Theme)) (e : LoadingError) (all : List (List ℕ × Theme)) : Type 0 where
   pub place : ℕ
   pub path : List ℕ
   pub left : List (List ℕ)
-  pub before : AddsThemes (take place files) old themes left all
+  pub before : AddsThemes Told (take place files) old themes left all
   pub there : slice_get files place ≡ Some path
   pub is_theme : is_some (theme_name path) ≡ true
-  pub refuses : IsThemeFault e
+  pub refuses : IsThemeFault Told path e
 
 -- Why the themes of a folder are not added, and what is added then: nothing where the walk has a
 -- fault, which leaves the repository too; or those before a file that gives no theme.
-pub data RefusesThemes (folder : List ℕ) (old : List (List ℕ))
+pub data RefusesThemes (Told : Answer → Type 0) (folder : List ℕ) (old : List (List ℕ))
     (themes : List (List ℕ × Theme)) : LoadingError → List (List ℕ) → List (List ℕ × Theme)
     → Type 0 where
-  no_walk : {e : LoadingError} → IsWalkFault e → RefusesThemes folder old themes e old themes
+  no_walk : {e : LoadingError} {found : List (List ℕ)} → RefusesWalk Told Themes folder found e
+      → RefusesThemes Told folder old themes e old themes
   stopped : {e : LoadingError} {files new : List (List ℕ)} {all : List (List ℕ × Theme)}
-      → IsWalk folder files → StopsAtTheme files old themes e all
-      → RefusesThemes folder old themes e new all
+      → IsWalk Told Themes folder files → StopsAtTheme Told files old themes e all
+      → RefusesThemes Told folder old themes e new all

@@ -1,12 +1,8 @@
-use Rattle.std.proofs.Common.{ℕ, List, reverse, ◌≤◌}
-use Rattle.syntect_base.specs.Walks.{Visits}
+use Rattle.syntect_base.proofs.WalkLaws.{Passes, at}
 use Rattle.syntect_base.proofs.utils.go_on.Given as goal
 
 abbrev pub invariant-entries : goal.invariant-entries
-invariant-entries g l = record {
-  first : (rest : List (List ℕ)) → Visits (reverse l.ahead) rest → Visits (reverse l.fn.ahead) rest;
-  fewer : l.left ≤ l.fn.left;
-}
+invariant-entries g l = record { passes : Passes (g.T.Tree.told l.tree) (at l.sought l.fn.ahead l.fn.left) (at l.sought l.ahead l.left) }
 
 abbrev pub decreases-entries : goal.decreases-entries
 decreases-entries g l = l.left

@@ -1,12 +1,23 @@
 use Rattle.std.proofs.Common.{string_bytes}
 use Rattle.std.specs.Path.{path_bytes}
-use Rattle.syntect_cat.proofs.syntect_easy_proofs.FileLaws.{built_within}
-use Rattle.syntect_cat.proofs.TextLaws.{file_text}
+use Rattle.syntect_cat.proofs.syntect_easy_proofs.FileLaws.{built_told}
+use Rattle.syntect_cat.proofs.TextLaws.{file_text, not_opened, not_read_on}
 use Rattle.syntect_cat.proofs.lines.text_of_file.Goals as goal
 
-pub returns : goal.returns
-returns g c = λ definitions b.
-    let l = c.in_ok-file.ensures.leads in
+pub returns-clause-shown : goal.returns-clause-shown
+returns-clause-shown g c = λ definitions b.
+    let Told = g.T.Tree.told c.args.tree.now in
+    let u = c.in-Ok.ensures.unread in
     let path = path_bytes c.args.path in
-    file_text c.default-limits.result c.form.result c.args.format c.args.set.now c.args.theme.now path (string_bytes c.in_ok-text.text) l.0 c.in_ok-file.limit c.in_ok-text.first c.note_of.result _ c.default-limits.ensures c.form.ensures l.1 c.note_of.ensures
-    (c.in_ok-text.ensures definitions l.0 (built_within c.default-limits.result c.args.set.now path l.0 c.in_ok-file.limit definitions b l.1) l.2)
+    let limits = c.default-limits.result in
+    let set = c.args.set.now in
+    let opened = c.in-Ok.opened in
+    let written = c.in-Ok-written.written in
+    file_text Told limits set path c.form-form.result c.args.format c.args.theme.now (string_bytes written.0) u.1 opened.1 written.1 c.note_of.result u.0 _ u.5 u.2 c.default-limits.ensures c.form-form.ensures u.3 c.note_of.ensures
+    (c.in-Ok-written.ensures definitions u.1 (built_told limits set path u.0 u.1 opened.1 definitions b u.3) u.4)
+
+pub returns-in-Err-clause-refused : goal.returns-in-Err-clause-refused
+returns-in-Err-clause-refused g c = not_opened (g.T.Tree.told c.args.tree.now) c.default-limits.result c.args.set.now (path_bytes c.args.path) c.in-Err.e c.in-Err.ensures.refused
+
+pub returns-in-Err-written-clause-refused : goal.returns-in-Err-written-clause-refused
+returns-in-Err-written-clause-refused g c = let u = c.in-Ok.ensures.unread in not_read_on (g.T.Tree.told c.args.tree.now) c.default-limits.result c.args.set.now (path_bytes c.args.path) u.0 u.5 c.in-Err-written.e

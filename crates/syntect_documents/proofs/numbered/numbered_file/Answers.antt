@@ -1,10 +1,21 @@
 use Rattle.std.specs.Path.{path_bytes}
-use Rattle.syntect_assets.proofs.syntect_easy_proofs.FileLaws.{built_within}
+use Rattle.syntect_assets.proofs.AssetsLaws.{file_left_off, file_refused}
+use Rattle.syntect_assets.proofs.syntect_easy_proofs.FileLaws.{built_told, text_kept}
 use Rattle.syntect_documents.proofs.numbered.numbered_file.Goals as goal
 
 pub returns-clause-shown : goal.returns-clause-shown
 returns-clause-shown g c = λ definitions b.
-    let l = c.in-Ok.ensures.leads in
+    let u = c.in-Ok.ensures.unread in
     let path = path_bytes c.args.path in
-    let t = c.in-Ok-written.ensures definitions l.0 (built_within c.args.assets.now.limits c.args.assets.now.set path l.0 c.in-Ok.opened.1 definitions b l.1) l.2 in
-    record { syntax = l.0; text = t.0; syntax_is = l.1; utf8 = t.2; shows = t.3 }
+    let assets = c.args.assets.now in
+    let t = c.in-Ok-written.ensures definitions u.1 (built_told assets.limits assets.set path u.0 u.1 c.in-Ok.opened.1 definitions b u.3) u.4 in
+    record { left = u.0; told = u.5; syntax = u.1; syntax_is = u.3; text = t.0; whole = text_kept u.0 _ t.0 u.2 t.1; utf8 = t.2; shows = t.3 }
+
+pub returns-in-Err-clause-refused : goal.returns-in-Err-clause-refused
+returns-in-Err-clause-refused g c =
+    file_refused (g.T.Tree.told c.args.tree.now) (path_bytes c.args.path) _ _ c.in-Err.e c.in_ok-refused_file-in-Err.field-0 c.in_ok-refused_file-in-Err.ensures c.in-Err.ensures.refused
+
+pub returns-in-Err-written-clause-refused : goal.returns-in-Err-written-clause-refused
+returns-in-Err-written-clause-refused g c =
+    let u = c.in-Ok.ensures.unread in
+    file_left_off (g.T.Tree.told c.args.tree.now) (path_bytes c.args.path) u.0 u.5 c.in-Err-written.e c.in_ok-refused_file-in-Err-written.field-0 c.in_ok-refused_file-in-Err-written.ensures

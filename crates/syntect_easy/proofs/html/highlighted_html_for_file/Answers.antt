@@ -5,14 +5,14 @@ use Rattle.syntect_easy.proofs.html.highlighted_html_for_file.Goals as goal
 
 pub returns-in-Ok-clause-page : goal.returns-in-Ok-clause-page
 returns-in-Ok-clause-page g c = λ definitions b.
-    let l = c.in-Ok.ensures.leads in
+    let u = c.in-Ok.ensures.unread in
     let path = path_bytes c.args.path in
-    page_of_file string_bytes c.args.ss.now c.args.theme.now path l.0 _ c.page_of_lines.result l.1
-    (c.page_of_lines.ensures.page definitions l.0 (built_of c.args.ss.now path l.0 definitions b l.1) l.2)
+    page_of_file (g.T.Tree.told c.args.tree.now) c.args.ss.now path u.1 u.0 _ u.5 u.2 u.3 string_bytes c.args.theme.now c.page_of_lines.result
+    (c.page_of_lines.ensures.page definitions u.1 (built_of c.args.ss.now path u.1 definitions b u.3.is_for) u.4)
 
 pub returns-in-Ok-clause-refused : goal.returns-in-Ok-clause-refused
 returns-in-Ok-clause-refused g c = λ definitions b.
-    let l = c.in-Ok.ensures.leads in
+    let u = c.in-Ok.ensures.unread in
     let path = path_bytes c.args.path in
-    no_page_of_file c.args.ss.now path l.0 _ c.page_of_lines.result l.1
-    (c.page_of_lines.ensures.refused definitions l.0 (built_of c.args.ss.now path l.0 definitions b l.1) l.2)
+    no_page_of_file (g.T.Tree.told c.args.tree.now) c.args.ss.now path u.1 u.0 _ u.5 u.2 u.3 c.page_of_lines.result
+    (c.page_of_lines.ensures.refused definitions u.1 (built_of c.args.ss.now path u.1 definitions b u.3.is_for) u.4)

@@ -1,7 +1,7 @@
 use Rattle.std.proofs.Common.{ℕ, List, [], Option, subst}
-use Rattle.std.specs.Prelude.{IfSome}
+use Rattle.std.specs.Prelude.{IfSome, IfNone}
 use Rattle.std.specs.Path.{path_bytes}
-use Rattle.syntect_grammar_limits.specs.syntect_base.Walks.{GivesFile}
+use Rattle.syntect_grammar_limits.specs.syntect_base.Walks.{GivesFile, GivesNone}
 use Rattle.syntect_grammar_limits.specs.FoldersWithin.{no_more}
 use Rattle.syntect_grammar_limits.proofs.FolderLaws.{next_added, all_added, breaks_off, not_begun, stopped}
 use Rattle.syntect_grammar_limits.proofs.folders.add_from_folder_within.Goals as goal
@@ -11,30 +11,32 @@ files-init g c = record { added = ([], c.in-Ok.ensures.ok, no_more); kept = λ o
 
 pub files-preserved : goal.files-preserved
 files-preserved g c =
-    let gives : GivesFile c.files.walk c.next_file.new.self c.in-Ok-Some.path
-    = subst (λ (o : Option (List ℕ)). IfSome o (GivesFile c.files.walk c.next_file.new.self)) c.in-Ok-Some.field-0-is c.in-Ok-Some.ensures.found in
+    let gives : GivesFile (g.T.Tree.told c.args.tree.now) c.files.walk c.next_file.new.self c.in-Ok-Some.path
+    = subst (λ (o : Option (List ℕ)). IfSome o (GivesFile (g.T.Tree.told c.args.tree.now) c.files.walk c.next_file.new.self)) c.in-Ok-Some.field-0-is c.in-Ok-Some.ensures.found in
     record {
-      added = next_added c.args.limits.now c.args.lines_include_newline (path_bytes c.args.folder) c.args.repository.now c.args.builder.now c.files.walk c.next_file.new.self c.in-Ok-Some.path c.as_str.result.now c.files.room c.add_file.new.room
+      added = next_added (g.T.Tree.told c.args.tree.now) c.args.limits.now c.args.lines_include_newline (path_bytes c.args.folder) c.args.repository.now c.args.builder.now c.files.walk c.next_file.new.self c.in-Ok-Some.path c.as_str.result.now c.files.room c.add_file.new.room
           c.files.repository c.add_file.new.repository c.files.builder c.add_file.new.builder c.files.invariant.added gives c.as_str.ensures c.in-Ok-add_file.ensures.ok;
       kept = λ old b. c.add_file.ensures.kept old (c.files.invariant.kept old b);
     }
 
 pub returns-in-Err-clause-err : goal.returns-in-Err-clause-err
-returns-in-Err-clause-err g c = not_begun c.args.limits.now c.args.lines_include_newline (path_bytes c.args.folder) c.args.repository.now c.args.builder.now c.in-Err.e c.in-Err.ensures.err
+returns-in-Err-clause-err g c = not_begun (g.T.Tree.told c.args.tree.now) c.args.limits.now c.args.lines_include_newline (path_bytes c.args.folder) c.args.repository.now c.args.builder.now c.in-Err.e c.in-Err.ensures.err
 
 pub returns-in-Ok-None-clause-ok : goal.returns-in-Ok-None-clause-ok
 returns-in-Ok-None-clause-ok g c =
-    all_added c.args.limits.now c.args.lines_include_newline (path_bytes c.args.folder) c.args.repository.now c.args.builder.now c.files.walk c.files.room c.files.repository c.files.builder c.files.invariant.added
+    let none : GivesNone (g.T.Tree.told c.args.tree.now) c.files.walk
+    = subst (λ (o : Option (List ℕ)). IfNone o (GivesNone (g.T.Tree.told c.args.tree.now) c.files.walk)) c.in-Ok-None.field-0-is c.in-Ok-None.ensures.none in
+    all_added (g.T.Tree.told c.args.tree.now) c.args.limits.now c.args.lines_include_newline (path_bytes c.args.folder) c.args.repository.now c.args.builder.now c.files.walk c.files.room c.files.repository c.files.builder c.files.invariant.added none
 
 pub returns-in-Err-next_file-clause-err : goal.returns-in-Err-next_file-clause-err
 returns-in-Err-next_file-clause-err g c =
-    breaks_off c.args.limits.now c.args.lines_include_newline (path_bytes c.args.folder) c.args.repository.now c.args.builder.now c.files.walk c.files.room c.files.repository c.files.builder c.in-Err-next_file.e
+    breaks_off (g.T.Tree.told c.args.tree.now) c.args.limits.now c.args.lines_include_newline (path_bytes c.args.folder) c.args.repository.now c.args.builder.now c.files.walk c.files.room c.files.repository c.files.builder c.in-Err-next_file.e
     c.files.invariant.added c.in-Err-next_file.ensures.err
 
 pub returns-in-Err-add_file-clause-err : goal.returns-in-Err-add_file-clause-err
 returns-in-Err-add_file-clause-err g c =
-    let gives : GivesFile c.files.walk c.next_file.new.self c.in-Ok-Some.path
-    = subst (λ (o : Option (List ℕ)). IfSome o (GivesFile c.files.walk c.next_file.new.self)) c.in-Ok-Some.field-0-is c.in-Ok-Some.ensures.found in
-    stopped c.args.limits.now c.args.lines_include_newline (path_bytes c.args.folder) c.args.repository.now c.args.builder.now c.files.walk c.next_file.new.self c.in-Ok-Some.path c.as_str.result.now c.files.room
+    let gives : GivesFile (g.T.Tree.told c.args.tree.now) c.files.walk c.next_file.new.self c.in-Ok-Some.path
+    = subst (λ (o : Option (List ℕ)). IfSome o (GivesFile (g.T.Tree.told c.args.tree.now) c.files.walk c.next_file.new.self)) c.in-Ok-Some.field-0-is c.in-Ok-Some.ensures.found in
+    stopped (g.T.Tree.told c.args.tree.now) c.args.limits.now c.args.lines_include_newline (path_bytes c.args.folder) c.args.repository.now c.args.builder.now c.files.walk c.next_file.new.self c.in-Ok-Some.path c.as_str.result.now c.files.room
     c.files.repository c.add_file.new.repository c.files.builder c.add_file.new.builder c.in-Err-add_file.e c.files.invariant.added gives c.as_str.ensures c.in-Err-add_file.ensures.err
     c.in-Err-add_file.ensures.refusal

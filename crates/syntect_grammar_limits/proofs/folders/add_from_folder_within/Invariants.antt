@@ -5,7 +5,7 @@ use Rattle.syntect_grammar_limits.proofs.folders.add_from_folder_within.Given as
 
 abbrev pub invariant-files : goal.invariant-files
 invariant-files g l = record {
-  added : Added l.loading.limits l.loading.lines_include_newline (path_bytes l.folder) l.fn.repository l.fn.builder l.walk l.room l.repository l.builder;
+  added : Added (g.T.Tree.told l.tree) l.loading.limits l.loading.lines_include_newline (path_bytes l.folder) l.fn.repository l.fn.builder l.walk l.room l.repository l.builder;
   kept : KeepsAtoms l.fn.repository l.repository;
 }
 

@@ -5,7 +5,7 @@ use Rattle.syntect_grammar_limits.proofs.lenient.add_what_loads_within.Given as 
 
 abbrev pub invariant-files : goal.invariant-files
 invariant-files g l = record {
-  added : AddedOf l.loading.limits l.loading.lines_include_newline (path_bytes l.folder) l.fn.repository l.fn.builder l.walk l.passed l.room l.repository l.builder;
+  added : AddedOf (g.T.Tree.told l.tree) l.loading.limits l.loading.lines_include_newline (path_bytes l.folder) l.fn.repository l.fn.builder l.walk l.passed l.room l.repository l.builder;
   kept : KeepsAtoms l.fn.repository l.repository;
 }
 

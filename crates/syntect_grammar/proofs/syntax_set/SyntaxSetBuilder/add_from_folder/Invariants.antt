@@ -5,7 +5,7 @@ use Rattle.syntect_grammar.proofs.syntax_set.SyntaxSetBuilder.add_from_folder.Gi
 
 abbrev pub invariant-files : goal.invariant-files
 invariant-files g l = record {
-  added : Added l.lines_include_newline (path_bytes l.folder) l.fn.repository l.fn.self l.walk l.repository l.self;
+  added : Added (g.T.Tree.told l.tree) l.lines_include_newline (path_bytes l.folder) l.fn.repository l.fn.self l.walk l.repository l.self;
   kept : KeepsAtoms l.fn.repository l.repository;
 }
 

@@ -1,0 +1,12 @@
+use Rattle.std.proofs.Common.{ℕ, List, sym, subst}
+use Rattle.syntect_base.specs.Trees.{has_bytes, unread, no_text}
+use Rattle.syntect_base.proofs.tree.read_text.Goals as goal
+
+pub returns-in-Err-clause-err : goal.returns-in-Err-clause-err
+returns-in-Err-clause-err g c = unread {e = c.in-Err.e} c.in-Err.ensures.err
+
+pub returns-in-Ok-text_of-clause-ok : goal.returns-in-Ok-text_of-clause-ok
+returns-in-Ok-text_of-clause-ok g c = subst (λ (bytes : List ℕ). g.T.Tree.told c.args.tree.now (has_bytes c.args.path.now bytes)) (sym c.in-Ok-text_of.ensures.ok) c.in-Ok.ensures.ok
+
+pub returns-in-Err-text_of-clause-err : goal.returns-in-Err-text_of-clause-err
+returns-in-Err-text_of-clause-err g c = no_text {bytes = c.in-Ok.bytes.items} c.in-Ok.ensures.ok c.in-Err-text_of.ensures.err c.in-Err-text_of.ensures.kind

@@ -1,0 +1,29 @@
+use Rattle.std.proofs.Common.{◌≡◌, ℕ, List, None, ap, sym, ◌∙◌, subst}
+use Rattle.std.specs.Option.{option_copied}
+use Rattle.std.specs.Path.{path_bytes}
+use Rattle.syntect_grammar.proofs.FindLaws.{told_by_name}
+use Rattle.syntect_grammar_limits.specs.syntect_base.Trees.{begins}
+use Rattle.syntect_grammar_limits.proofs.FirstLaws.{no_first_line, line_tells, line_tells_none}
+use Rattle.syntect_grammar_limits.proofs.first_lines.find_syntax_for_file_within.Goals as goal
+
+pub returns-in-Some-clause-found : goal.returns-in-Some-clause-found
+returns-in-Some-clause-found g c = told_by_name (g.T.Tree.told c.args.tree.now) c.args.set.now (path_bytes c.args.path) c.in-Some.syntax.now c.in-Some.ensures
+
+pub returns-in-Err-clause-refused : goal.returns-in-Err-clause-refused
+returns-in-Err-clause-refused g c =
+    no_first_line (g.T.Tree.told c.args.tree.now) c.args.set.now (path_bytes c.args.path) c.as_str.result.now c.as_str.ensures (sym c.find_syntax_by_file_name.ensures ∙ ap option_copied c.in_default.is)
+    c.in-Err.e c.from.result c.from.ensures c.in-Err.ensures.err
+
+pub returns-clause-found : goal.returns-clause-found
+returns-clause-found g c =
+    let Told = g.T.Tree.told c.args.tree.now in
+    line_tells Told c.args.set.now (path_bytes c.args.path) c.as_str.result.now c.as_str.ensures (sym c.find_syntax_by_file_name.ensures ∙ ap option_copied c.in_default.is)
+    c.as_str-2.result.now c.as_str-2.utf8 (subst (λ (line : List ℕ). Told (begins c.as_str.result.now line)) (sym c.as_str-2.ensures.value) c.in-Ok.ensures.ok)
+    option_copied c.find_syntax_by_first_line_within.result c.find_syntax_by_first_line_within.ensures.found
+
+pub returns-clause-refused : goal.returns-clause-refused
+returns-clause-refused g c =
+    let Told = g.T.Tree.told c.args.tree.now in
+    line_tells_none Told c.args.set.now (path_bytes c.args.path) c.as_str.result.now c.as_str.ensures (sym c.find_syntax_by_file_name.ensures ∙ ap option_copied c.in_default.is)
+    c.as_str-2.result.now c.as_str-2.utf8 (subst (λ (line : List ℕ). Told (begins c.as_str.result.now line)) (sym c.as_str-2.ensures.value) c.in-Ok.ensures.ok)
+    c.find_syntax_by_first_line_within.result c.find_syntax_by_first_line_within.ensures.refused
