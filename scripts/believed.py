@@ -77,6 +77,7 @@ ENTRIES = [
         ("", "vls_doc_reset"),
         ("", "vls_doc_spans"),
     ]),
+    ("What is wrong with a grammar", [("", "diagnose")]),
 ]
 
 

@@ -1,4 +1,15 @@
 //! What is wrong with grammars and themes, and where.
+ghost use Rattle.std.specs.Prelude.{◌≡◌, ◌≢◌, ℕ, IfOk, List, Result, true, false, string_bytes};
+ghost use Rattle.std.specs.Path.{path_file_stem};
+ghost use Rattle.syntect_grammar_limits.specs.Limited.{Left, LoadsWithin, left_of};
+ghost use Rattle.syntect_grammar_limits.specs.syntect_base.declared.limits.LoadWithinError.TheVariants as error;
+ghost use Rattle.syntect_grammar_limits.specs.syntect_base.declared.syntax.ParseSyntaxError.TheVariants.{Memory};
+ghost use Rattle.syntect_grammar_limits.specs.syntect_grammar_loader.LoadingSteps.{Refusal};
+ghost use Rattle.syntect_grammar_limits.specs.syntect_grammar_loader.declared.definition.SyntaxDefinition.{SyntaxDefinition as ADefinition};
+ghost use Rattle.syntect_grammar_limits.specs.syntect_base.Limiting.{usual};
+ghost use Rattle.syntect_grammar_limits.specs.syntect_grammar_loader.Loading.{loaded};
+ghost use Rattle.vulsangi_check.specs.Faults.{IsFaultOf};
+
 use crate::{faults, keys, patterns, references, variables};
 use std::alloc::Global;
 use std::fs;
@@ -13,12 +24,40 @@ use vulsangi_grammar::syntect::LoadingError;
 use vulsangi_grammar::syntect::assets::AssetsError;
 use vulsangi_grammar::syntect::highlighting::ThemeSet;
 use vulsangi_grammar::syntect::parsing::{
-    Limits, LoadWithinError, ParseSyntaxError, ScopeRepository, load_from_str_within,
+    Limits, LoadWithinError, ParseSyntaxError, ScopeRepository, SyntaxDefinition,
+    load_from_str_within,
 };
 use vulsangi_grammar::themes::check_theme;
 
+/// A definition, or why there is none.
+type Parted = (Option<SyntaxDefinition>, Option<LoadWithinError>);
+
 /// A grammar as it is read, and why it isn't loaded, if it isn't.
 type Read = (Grammar, Option<LoadWithinError>);
+
+/// Whether memory ran out.
+fn is_memory(e: &LoadWithinError) -> bool
+    ensures { result ≡ false → e.now ≢ error.Refused Memory }
+{
+    matches!(e, LoadWithinError::Refused(ParseSyntaxError::Memory))
+}
+
+/// The definition of a text that is loaded, or the fault of one that isn't.
+fn parted(loaded: Result<SyntaxDefinition, LoadWithinError>) -> Result<Parted, AssetsError>
+    ensures { (left : Left) (answer : Result (ADefinition × List (List ℕ)) Refusal)
+        (repository : List (List ℕ)) → LoadsWithin left answer loaded repository
+        → IfOk result (λ parts. IsFaultOf left answer parts.1) }
+{
+    match loaded {
+        Ok(definition) => Ok((Some(definition), None)),
+        Err(e) => {
+            if is_memory(&e) {
+                return Err(AssetsError::Memory);
+            }
+            Ok((None, Some(e)))
+        }
+    }
+}
 
 /// Reads a grammar from its text.
 pub fn read_grammar(
@@ -26,16 +65,15 @@ pub fn read_grammar(
     path: &str,
     text: String,
     repository: &mut ScopeRepository,
-) -> Result<Read, AssetsError> {
+) -> Result<Read, AssetsError>
+    ensures { IfOk result (λ read. IsFaultOf (left_of usual (string_bytes text))
+        (loaded (string_bytes text) true (path_file_stem path.now) repository.old) read.1) }
+{
     let yaml = yaml_of(alloc, text.as_str())?;
     let stem = Path::new(path).file_stem();
     let limits = Limits::default();
     let loaded = load_from_str_within(alloc, text.as_str(), true, stem, repository, &limits);
-    let (definition, fault) = match loaded {
-        Ok(definition) => (Some(definition), None),
-        Err(LoadWithinError::Refused(ParseSyntaxError::Memory)) => return Err(AssetsError::Memory),
-        Err(e) => (None, Some(e)),
-    };
+    let (definition, fault) = parted(loaded)?;
     let grammar = Grammar {
         path: String::from_str(alloc, path)?,
         text,

@@ -2,6 +2,7 @@
 #![tactic(auto)]
 
 pub mod check;
+pub mod diagnose;
 mod faults;
 mod keys;
 mod patterns;
