@@ -30,8 +30,9 @@ abbrev pub RefusesThemeIn : (Told : Answer → Type 0) → List ℕ → AssetsEr
 RefusesThemeIn Told path r =
     (e : LoadingError) × IsThemeFault Told path e × TellsLoading e r
 
--- A file isn't shown, and that is told: it wasn't opened, for a fault; or it was opened, and then not
--- read, or it is no text; or a line is refused, or no syntax fits; or there was no memory.
+-- A file isn't shown, and that is told. That it isn't read is told only where it wasn't opened, for a
+-- fault, or was opened, and then not read, or is no text; why it isn't shown otherwise, a line that is
+-- refused or no syntax that fits, and lack of memory aren't looked into.
 abbrev pub RefusesReading : (Told : Answer → Type 0) → List ℕ → AssetsError → Type 0
 RefusesReading Told path (refusal.NotRead told) = (e : IoError) × IsFileFault Told path e
 RefusesReading Told path (refusal.NotShown e) = Unit {0}
