@@ -122,7 +122,8 @@ typedef struct vls_span {
 } vls_span;
 
 /* Makes a document in the language of a name, by the theme of a name, before its first line. The grammars of the set are
- * linked, unless they are. What the handle held before is freed. Where it is refused, vls_set_fault tells why. */
+ * linked, unless they are. What the handle held before is freed. Where it is refused, the handle is empty, and
+ * vls_set_fault tells why. */
 int32_t vls_doc_new(vls_doc *doc, vls_set *set, const uint8_t *language, size_t language_size, const uint8_t *theme,
                     size_t theme_size);
 

@@ -26,6 +26,7 @@ use std::alloc::{AllocError, Global};
 use std::path::Path;
 use syntect_easy::Error;
 use syntect_easy::easy::{HighlightFile, HighlightLines};
+use syntect_easy::reading::FileLines;
 
 /// Grammars, the texts of their scopes, and themes.
 #[derive(Drop)]
@@ -65,7 +66,7 @@ fn listed(alloc: Global, names: &[&str]) -> Result<String, AllocError> {
 }
 
 /// Why a file isn't shown: that it isn't read comes with its path.
-fn refused_file(alloc: Global, path: Path<'_>, e: Error) -> Result<AssetsError, AllocError>
+pub fn refused_file(alloc: Global, path: Path<'_>, e: Error) -> Result<AssetsError, AllocError>
     ensures { IfOk result (TellsFile e) }
 {
     match e {
@@ -254,7 +255,7 @@ impl Assets {
     ///
     /// `NotRead` with the path where the file isn't read or isn't UTF-8; `NotShown` with the line's
     /// refusal, or with `NoSyntax` where no syntax fits and there is no plain text.
-    #[tactic(auto, using(crate::proofs::AssetsLaws::file_refused, crate::proofs::AssetsLaws::file_left_off))]
+    #[tactic(auto, using(crate::proofs::AssetsLaws::file_refused))]
     pub fn show_file<T: Tree>(
         &self,
         tree: &T,
@@ -267,8 +268,8 @@ impl Assets {
         ensures shown { (definitions : List ADefinition) → IsBuilt self.now.set definitions
             → IfOk result (ShowsFile (T.told tree.now) self.now (path_bytes path.entry)
             theme.now format) }
-        ensures refused { IfErr result
-            (RefusesReading (T.told tree.now) (path_bytes path.entry)) }
+        ensures refused { IfErr result (RefusesReading (T.told tree.now)
+            self.now.limits self.now.set (path_bytes path.entry)) }
     {
         let limits = &self.limits;
         let opened = HighlightFile::new_or_plain(tree, alloc, path, &self.set, theme, limits);
@@ -276,8 +277,13 @@ impl Assets {
             Ok(opened) => opened,
             Err(e) => return Err(refused_file(alloc, path, e)?),
         };
-        let lines = file.highlight_lines;
-        let written = text_of_lines(alloc, file.reader, lines, format, &self.set, theme, limits);
+        let lines = FileLines {
+            tree,
+            path: path.as_str(),
+            reader: file.reader,
+        };
+        let highlighter = file.highlight_lines;
+        let written = text_of_lines(alloc, lines, highlighter, format, &self.set, theme, limits);
         let (text, plain) = match written {
             Ok(written) => written,
             Err(e) => return Err(refused_file(alloc, path, e)?),

@@ -3,21 +3,22 @@ ghost use Rattle.std.specs.Prelude.{◌≡◌, ◌<◌, ◌-◌, ◌^◌, ℕ, L
 ghost use Rattle.syntect_assets.specs.syntect_grammar_loader.declared.definition.SyntaxDefinition.{SyntaxDefinition as ADefinition};
 ghost use Rattle.syntect_assets.specs.syntect_grammar_contexts.declared.syntax_reference.SyntaxReference.{SyntaxReference as ASyntax};
 ghost use Rattle.syntect_easy.specs.Built.{IsSyntaxOfBuilt};
+ghost use Rattle.syntect_easy.specs.Files.{FaultsAre, IsLineFault};
 ghost use Rattle.syntect_easy.specs.Leads.{Leads};
 ghost use Rattle.syntect_easy.specs.Rows.{IsTextOf};
 ghost use Rattle.syntect_assets.specs.Texts.{IsWritten, first_of};
 
 use crate::below::base::limits::Limits;
+use crate::below::base::lines::ReadLines;
 use crate::below::parsing::syntax_set::SyntaxSet;
 use crate::below::parsing::within::LineLimit;
 use crate::below::theme::theme::Theme;
 use crate::format::Format;
 use crate::writer::TextWriter;
 use std::alloc::Global;
-use std::io::{BufRead, Error as IoError, ErrorKind};
 use syntect_easy::Error;
 use syntect_easy::easy::HighlightLines;
-use syntect_easy::laws::lines_within_limits;
+use syntect_easy::laws::{lines_of_readers, lines_within_limits};
 use syntect_easy::reading::{next_line, text_of};
 
 /// The number of a line, from 1, and the limit that it reached, so that it is shown plain.
@@ -39,31 +40,33 @@ pub fn first_of(
     }
 }
 
-/// What a reader gives, in a format, by a highlighter that has read nothing yet, and the first line
+/// What a reader's lines are in a format, by a highlighter that has read nothing yet, and the first line
 /// that is shown plain because it reached a limit. Each line, up to and with its newline, is tested
 /// for UTF-8 and read before the next; `Io` where reading fails or a line is not UTF-8, and the
 /// refusal of a line that is refused for anything but a limit.
-pub fn text_of_lines<R: BufRead + Drop>(
+pub fn text_of_lines<L: ReadLines + Drop>(
     alloc: Global,
-    mut reader: R,
+    mut lines: L,
     mut highlighter: HighlightLines<'_>,
     format: Format,
     set: &SyntaxSet,
     theme: &Theme,
     limits: &Limits,
 ) -> Result<(String, Option<PlainLine>), Error>
-    ensures { (definitions : List ADefinition) (syntax : ASyntax)
+    ensures text { (definitions : List ADefinition) (syntax : ASyntax)
         → IsSyntaxOfBuilt set.now syntax definitions
         → Leads set.now theme.now syntax [] [] highlighter.entry
-        → IfOk result (λ r. (text : List ℕ) × IsTextOf (R.remaining reader) text × IsUtf8 text
+        → IfOk result (λ r. (text : List ℕ) × IsTextOf (L.ahead lines) text × IsUtf8 text
         × IsWritten limits.now format set.now theme.now syntax text (string_bytes r.0) r.1) }
+    ensures faults { IfErr result (FaultsAre (IsLineFault (L.failed lines) (L.ahead lines))) }
 {
     lines_within_limits();
+    lines_of_readers();
     let mut writer = TextWriter::new(alloc, format, theme)?;
     let mut bytes = Vec::new(alloc);
     let mut first = None;
     for before in 0..u64::MAX {
-        if !next_line(&mut reader, &mut bytes)? {
+        if !next_line(&mut lines, &mut bytes)? {
             return Ok((writer.whole()?, first));
         }
         let line = text_of(bytes.as_slice())?;
@@ -71,5 +74,6 @@ pub fn text_of_lines<R: BufRead + Drop>(
         writer.append(pieces.as_slice())?;
         first = first_of(first, before, limit);
     }
-    Err(Error::Io(IoError::new(ErrorKind::Other, "too many lines")))
+    // no memory holds so many lines
+    Err(Error::Memory)
 }

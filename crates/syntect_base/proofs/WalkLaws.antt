@@ -1,7 +1,6 @@
 -- Walks, entry after entry and file after file.
-use Rattle.std.proofs.Common.{◌≡◌, ◌≢◌, ℕ, ◌+◌, ◌-◌, ◌^◌, ◌<◌, List, [], ◌∷◌, ◌++◌, ◌⊎◌, inl, inr, length, map, reverse, refl, ap, sym, ◌∙◌, append_assoc, subst, arith}
+use Rattle.std.proofs.Common.{◌≡◌, ◌≢◌, ℕ, ◌+◌, ◌-◌, ◌^◌, List, [], ◌∷◌, ◌++◌, ◌⊎◌, inl, inr, length, map, reverse, refl, ap, sym, ◌∙◌, append_assoc, subst, arith}
 use Rattle.std.proofs.lemmas.List.{append-nil, length-append, reverse-append, reverse-reverse}
-use Rattle.std.specs.declared.io.Error.{Error}
 use Rattle.syntect_base.specs.Ahead.{Ahead}
 use Rattle.syntect_base.specs.Trees.{Answer, stands}
 use Rattle.syntect_base.specs.Walks.{joined, Lists, Unlisted, Entry, files_of, End, whole, left_off, broken, Visits, none_ahead, leaves_off, passes_over, takes, enters, ends_inside, breaks_at, breaks_in, Walks, IsWalk, BeginsWalk, RefusesWalk, no_memory_yet, no_memory, no_names, at_fault, too_many, GivesFile, GivesNone, RefusesFile, no_room, at_entry, none_left, IsWalkSoFar, IsWalkFault}
@@ -107,9 +106,6 @@ pub record Passes (Told : Answer → Type 0) (before after : Ahead) : Type 0 whe
   pub no_file : files_of seen ≡ []
   pub goes_on : (rest : List Entry) (end : End) → Visits Told before.sought after.paths rest end → Visits Told before.sought before.paths (seen ++ rest) end
   pub counted : after.left + length seen ≡ before.left
-
-pub passes_none : (Told : Answer → Type 0) (ahead : Ahead) → Passes Told ahead ahead
-passes_none Told ahead = record { seen = []; no_file = refl; goes_on = λ rest end v. v; counted = omega arith }
 
 -- what is ahead of a search for the next file
 abbrev pub at : Sought → List (List ℕ) → ℕ → Ahead

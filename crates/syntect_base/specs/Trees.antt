@@ -19,6 +19,8 @@ pub data Answer : Type 0 where
   opened : List ℕ → Option (List ℕ) → Answer
   -- it was not opened, for this fault
   not_opened : List ℕ → Error → Answer
+  -- it was opened, and then not read further, for this fault
+  not_read_on : List ℕ → Error → Answer
   -- the folder at the path was listed as these bytes: its names, and a NUL after each
   listed : List ℕ → List ℕ → Answer
   -- it was not listed, for this fault
@@ -27,6 +29,10 @@ pub data Answer : Type 0 where
   stands : List ℕ → Kind → Answer
   -- what stands there was not told, for this fault
   not_told : List ℕ → Error → Answer
+  -- the file at the path was written, and these are its bytes
+  written : List ℕ → List ℕ → Answer
+  -- it was not written whole, for this fault
+  not_written : List ℕ → Error → Answer
 
 -- Why a file gives no text: it was not read, for this fault; or the bytes that were read are not
 -- UTF-8, of which a fault of this kind tells.

@@ -3,6 +3,7 @@
 #![tactic(auto)]
 
 pub mod limits;
+pub mod lines;
 pub mod loading;
 pub mod settings;
 pub mod syntax;

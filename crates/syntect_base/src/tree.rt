@@ -1,7 +1,11 @@
 //! Files and folders, by calls whose answers clauses can name.
-ghost use Rattle.std.specs.Prelude.{◌≡◌, ℕ, List, IfOk, IfErr, IsUtf8, string_bytes};
+ghost use Rattle.std.specs.Prelude.{◌≡◌, ◌+◌, ◌++◌, ℕ, List, [], length, IfOk, IfErr, IfSome, OnOk, IsUtf8, string_bytes, vec_len};
+ghost use Rattle.std.specs.Io.{StartsWith, StopsAt, appended_bytes};
+ghost use Rattle.std.specs.Io.BufRead.{DropsThrough, take_through};
+ghost use Rattle.std.specs.Io.Buffered.{reader_buffer, reader_remaining};
+ghost use Rattle.std.specs.Io.KnownBytes.{IsAtEnd, Keeps};
 ghost use Rattle.std.specs.IoError.{error_kind};
-ghost use Rattle.syntect_base.specs.Trees.{Answer, RefusesText, RefusesLine, has_bytes, not_read, begins, not_begun, opened, not_opened, listed, not_listed, stands, not_told};
+ghost use Rattle.syntect_base.specs.Trees.{Answer, RefusesText, RefusesLine, has_bytes, not_read, begins, not_begun, opened, not_opened, not_read_on, listed, not_listed, stands, not_told, written, not_written};
 
 use std::alloc::Global;
 use std::io::{BufRead, BufReader, ErrorKind, Read};
@@ -41,6 +45,35 @@ pub trait Tree {
             (λ file. told self.now (opened path.now (Self.File.remaining file))) }
         ensures err { IfErr result (λ e. told self.now (not_opened path.now e)) };
 
+    /// Appends the next line of a file that was opened at this path, up to and with its line feed.
+    /// It answers how many bytes that is: none where nothing is left.
+    fn read_line(
+        &self,
+        path: &str,
+        reader: &mut BufReader<Self::File>,
+        line: &mut Vec<u8>,
+    ) -> io::Result<usize>
+        ensures count { IfOk result (λ n. vec_len line.new ≡ vec_len line.old + n) }
+        ensures appends { StartsWith line.new.items line.old.items }
+        ensures stops { StopsAt (appended_bytes line.old.items line.new.items) 10 }
+        ensures bytes { OnOk result (IfSome (reader_remaining Self.File.remaining reader.old)
+            (λ xs. line.new.items ≡ line.old.items ++ take_through 10 xs)) }
+        ensures rest { OnOk result (DropsThrough
+            (reader_remaining Self.File.remaining reader.old)
+            (reader_remaining Self.File.remaining reader.new) 10) }
+        ensures end { IfOk result
+            (λ n. n ≡ 0 → IsAtEnd (reader_remaining Self.File.remaining reader.old)) }
+        ensures err { IfErr result (λ e. told self.now (not_read_on path.now e)) };
+
+    /// Reads on in a file that was opened at this path until the reader's buffer has bytes, or
+    /// nothing is left. No byte is taken.
+    fn fill(&self, path: &str, reader: &mut BufReader<Self::File>) -> io::Result<()>
+        ensures keeps { Keeps (reader_remaining Self.File.remaining reader.old)
+            (reader_remaining Self.File.remaining reader.new) }
+        ensures some { OnOk result (IfSome (reader_remaining Self.File.remaining reader.old)
+            (λ xs. length (reader_buffer reader.new) ≡ 0 → xs ≡ [])) }
+        ensures err { IfErr result (λ e. told self.now (not_read_on path.now e)) };
+
     /// The names in a folder: their bytes, and a NUL after each.
     fn list_folder(&self, alloc: Global, path: &str) -> io::Result<Vec<u8>>
         ensures ok { IfOk result (λ bytes. told self.now (listed path.now bytes.items)) }
@@ -50,6 +83,11 @@ pub trait Tree {
     fn kind_at(&self, path: &str) -> io::Result<Kind>
         ensures ok { IfOk result (λ kind. told self.now (stands path.now kind)) }
         ensures err { IfErr result (λ e. told self.now (not_told path.now e)) };
+
+    /// Writes a file of these bytes, in place of what it held.
+    fn write_file(&self, path: &str, bytes: &[u8]) -> io::Result<()>
+        ensures ok { OnOk result (told self.now (written path.now bytes.now)) }
+        ensures err { IfErr result (λ e. told self.now (not_written path.now e)) };
 }
 
 /// The files and folders of the standard library, which tells nothing of what they hold.
@@ -76,6 +114,22 @@ impl<T: Files> Tree for T {
         fs::open(self, path)
     }
 
+    fn read_line(
+        &self,
+        _path: &str,
+        reader: &mut BufReader<T::File>,
+        line: &mut Vec<u8>,
+    ) -> io::Result<usize> {
+        reader.read_until(b'\n', line)
+    }
+
+    fn fill(&self, _path: &str, reader: &mut BufReader<T::File>) -> io::Result<()> {
+        match reader.fill_buf() {
+            Ok(_) => Ok(()),
+            Err(e) => Err(e),
+        }
+    }
+
     fn list_folder(&self, alloc: Global, path: &str) -> io::Result<Vec<u8>> {
         let mut folder = String::from_str(alloc, path)?;
         if !path.is_empty() && !path.ends_with('/') {
@@ -99,6 +153,10 @@ impl<T: Files> Tree for T {
             return Ok(Kind::File);
         }
         Ok(Kind::Other)
+    }
+
+    fn write_file(&self, path: &str, bytes: &[u8]) -> io::Result<()> {
+        fs::write(self, path, bytes)
     }
 }
 

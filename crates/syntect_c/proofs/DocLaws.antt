@@ -102,13 +102,6 @@ pub begins_of : (language theme : List ℕ) (held : Option SetContent) (content 
 begins_of language theme held content document is begins =
     record { content = content; set_is = is; begins = begins }
 
--- so does what is held of it
-pub begins_new : (language theme : List ℕ) (set : Option SetContent) (doc : Option DocContent)
-    (document : DocContent) → doc ≡ Some document → BeginsOf language theme set document
-    → BeginsNew language theme set doc
-begins_new language theme set doc document is begins =
-    record { document = document; doc_is = is; begins = begins }
-
 -- what holds of an answer, if there is one, makes something else hold of it
 pub if_made : {X E : Type 0} (P Q : X → Type 0) (answer : Result X E) → ((x : X) → P x → Q x)
     → IfOk answer P → IfOk answer Q
@@ -121,10 +114,3 @@ pub names_held : (before after : Option DocContent) (old new : DocContent) → b
 names_held before after old new before_is after_is same =
     subst (λ (o : Option DocContent). NamesStay o after) (sym before_is)
     (subst (λ (o : Option DocContent). NamesStay (Some old) o) (sym after_is) same)
-
--- nothing stays nothing
-pub names_none : (before after : Option DocContent) → before ≡ None → after ≡ None
-    → NamesStay before after
-names_none before after before_is after_is =
-    subst (λ (o : Option DocContent). NamesStay o after) (sym before_is)
-    (subst (λ (o : Option DocContent). NamesStay None o) (sym after_is) tt)

@@ -173,7 +173,8 @@ fn new_with(
 }
 
 /// Makes a document in the language of a name, by the theme of a name, before its first line. The
-/// grammars of the set are linked, unless they are. What the handle held is freed.
+/// grammars of the set are linked, unless they are. What the handle held is freed; where no document
+/// is made, the handle is empty.
 #[unsafe(no_mangle)]
 pub extern "C" fn vls_doc_new(
     doc: &mut DocSlot,
@@ -186,6 +187,7 @@ pub extern "C" fn vls_doc_new(
     ensures stays { IsSome set.new.handle.held ↔ IsSome set.old.handle.held }
     ensures begins { result ≡ pos 0
         → BeginsNew language.now theme.now set.new.handle.held doc.new.handle.held }
+    ensures empty { result ≢ pos 0 → doc.new.handle.held ≡ None }
 {
     drop(mem::replace(doc, DocSlot::empty(alloc)).take());
     match new_with(set, alloc, language, theme) {

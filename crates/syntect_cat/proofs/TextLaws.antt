@@ -1,20 +1,20 @@
 -- The text that shows a file, and what is reported of it.
-use Rattle.std.proofs.Common.{◌≡◌, ℕ, List, [], refl, subst, IsUtf8}
+use Rattle.std.proofs.Common.{◌≡◌, ℕ, List, [], refl, subst, IsUtf8, inl, inr}
 use Rattle.std.specs.Io.KnownBytes.{Keeps}
 use Rattle.std.specs.Prelude.{Option, Some, None}
 use Rattle.syntect_cat.specs.syntect_base.Limiting.{usual}
-use Rattle.syntect_cat.specs.syntect_base.Trees.{Answer, opened}
+use Rattle.syntect_cat.specs.syntect_base.Trees.{Answer, not_read_on, opened}
 use Rattle.syntect_cat.specs.syntect_base.declared.limits.Limits.{Limits}
 use Rattle.syntect_cat.specs.syntect_theme.declared.theme.Theme.{Theme}
 use Rattle.syntect_cat.specs.syntect_grammar_contexts.declared.syntax_reference.SyntaxReference.{SyntaxReference}
-use Rattle.syntect_cat.specs.syntect_easy.Files.{IsFileFault, file_unread}
+use Rattle.syntect_cat.specs.syntect_easy.Files.{FaultsAre, IsFileFault, IsLineFault}
 use Rattle.syntect_cat.specs.syntect_grammar.declared.error.Error.{Error}
 use Rattle.syntect_cat.specs.syntect_grammar.declared.error.Error.TheVariants as error
 use Rattle.syntect_cat.specs.syntect_grammar.declared.syntax_set.SyntaxSet.{SyntaxSet}
 use Rattle.syntect_cat.specs.syntect_parsing.declared.within.LineLimit.{LineLimit}
 use Rattle.syntect_cat.specs.syntect_easy.Files.{HasNoLinesWithin, IsToldWithin}
 use Rattle.syntect_cat.specs.syntect_easy.Rows.{IsTextOf}
-use Rattle.syntect_cat.proofs.syntect_easy_proofs.FileLaws.{fault_within, text_kept}
+use Rattle.syntect_cat.proofs.syntect_easy_proofs.FileLaws.{fault_within, line_fault_kept, text_kept}
 use Rattle.syntect_cat.specs.syntect_grammar_limits.declared.first_line_error.FirstLineLimit.{FirstLineLimit}
 use Rattle.syntect_cat.specs.Notes.{Tells, note_of}
 use Rattle.syntect_cat.specs.declared.note.Note.{Note}
@@ -45,7 +45,7 @@ module _ (Told : Answer → Type 0) (limits : Limits) (set : SyntaxSet) (path : 
 
   -- a file that wasn't opened, or not read then
   pub not_opened : (e : Error) → HasNoLinesWithin (IsFileFault Told path) limits set path e → IsFaultOfFile Told path e
-  not_opened (error.Io x) h = fault_within (IsFileFault Told path) limits set path x (error.Io x) refl h
+  not_opened (error.Io x) h = inl (fault_within (IsFileFault Told path) limits set path x (error.Io x) refl h)
   not_opened (error.LoadingError x) h = tt
   not_opened (error.ParsingError x) h = tt
   not_opened (error.ScopeError x) h = tt
@@ -56,17 +56,17 @@ module _ (Told : Answer → Type 0) (limits : Limits) (set : SyntaxSet) (path : 
   not_opened (error.Pattern x) h = tt
   not_opened error.Memory h = tt
 
-  pub not_read_on : (left : Option (List ℕ)) → Told (opened path left) → (e : Error) → IsFaultOfFile Told path e
-  not_read_on left told (error.Io x) = file_unread {left = left} told
-  not_read_on left told (error.LoadingError x) = tt
-  not_read_on left told (error.ParsingError x) = tt
-  not_read_on left told (error.ScopeError x) = tt
-  not_read_on left told (error.Fmt x) = tt
-  not_read_on left told error.NoSyntax = tt
-  not_read_on left told (error.ParseSyntax x) = tt
-  not_read_on left told (error.ParseScope x) = tt
-  not_read_on left told (error.Pattern x) = tt
-  not_read_on left told error.Memory = tt
+  pub not_read_to_end : (left seen : Option (List ℕ)) → Keeps left seen → Told (opened path left) → (e : Error) → FaultsAre (IsLineFault (λ e. Told (not_read_on path e)) seen) e → IsFaultOfFile Told path e
+  not_read_to_end left seen k told (error.Io x) f = inr (left, told, line_fault_kept (λ e. Told (not_read_on path e)) left seen k x f)
+  not_read_to_end left seen k told (error.LoadingError x) f = tt
+  not_read_to_end left seen k told (error.ParsingError x) f = tt
+  not_read_to_end left seen k told (error.ScopeError x) f = tt
+  not_read_to_end left seen k told (error.Fmt x) f = tt
+  not_read_to_end left seen k told error.NoSyntax f = tt
+  not_read_to_end left seen k told (error.ParseSyntax x) f = tt
+  not_read_to_end left seen k told (error.ParseScope x) f = tt
+  not_read_to_end left seen k told (error.Pattern x) f = tt
+  not_read_to_end left seen k told error.Memory f = tt
 
 -- ---- what is reported ----
 

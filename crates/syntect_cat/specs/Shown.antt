@@ -7,7 +7,7 @@ use Rattle.syntect_cat.specs.syntect_base.Trees.{Answer, has_bytes}
 use Rattle.syntect_cat.specs.syntect_base.declared.limits.LimitReached.{LimitReached as AReached}
 use Rattle.syntect_cat.specs.syntect_grammar_limits.FoldersWithin.{AddsFolderWithin, RefusesFolderWithin}
 use Rattle.syntect_cat.specs.syntect_grammar_limits.declared.folder_error.FolderWithinError.TheVariants.{LimitReached}
-use Rattle.syntect_cat.specs.syntect_easy.Files.{IsFileFault}
+use Rattle.syntect_cat.specs.syntect_easy.Files.{IsTextFault}
 use Rattle.syntect_cat.specs.syntect_grammar.Folders.{no_definitions}
 use Rattle.syntect_cat.specs.syntect_grammar.Link.{definitions_in, paths_in, syntaxes_in, set_paths, linked}
 use Rattle.syntect_cat.specs.syntect_grammar.Metadata.{entries_in, kept_sets, metadata_in, IsMergedOf}
@@ -55,10 +55,10 @@ pub record PassesLimit (Told : Answer → Type 0) (folder : List ℕ) (r : AReac
       found all
 
 -- why a fault is reported: a limit, as a grammar in the folder passes it; the file, as it wasn't
--- opened, for a fault, or then not read, or is no text
+-- opened, for a fault, or then not read further, or is no text
 abbrev pub HasReason : (Told : Answer → Type 0) → List ℕ → List ℕ → Fault → Type 0
 HasReason Told folder file (Limit r path) = PassesLimit Told folder r path
-HasReason Told folder file File = (e : IoError) × IsFileFault Told file e
+HasReason Told folder file File = (e : IoError) × IsTextFault Told file e
 HasReason Told folder file fault = Unit {0}
 
 -- the same where folder and file are those that these words name

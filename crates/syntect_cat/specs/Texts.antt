@@ -2,7 +2,7 @@
 use Rattle.std.specs.Prelude.{◌≡◌, ℕ, List, Option, IsUtf8}
 use Rattle.syntect_cat.specs.syntect_base.Limiting.{usual}
 use Rattle.syntect_cat.specs.syntect_base.Trees.{Answer, opened}
-use Rattle.syntect_cat.specs.syntect_easy.Files.{IsFileFault}
+use Rattle.syntect_cat.specs.syntect_easy.Files.{IsTextFault}
 use Rattle.syntect_cat.specs.syntect_grammar.declared.error.Error.{Error}
 use Rattle.syntect_cat.specs.syntect_grammar.declared.error.Error.TheVariants as error
 use Rattle.syntect_cat.specs.syntect_grammar_contexts.declared.syntax_reference.SyntaxReference.{SyntaxReference}
@@ -44,8 +44,8 @@ pub record ShowsFile (Told : Answer → Type 0) (format : Format) (set : SyntaxS
   pub utf8 : IsUtf8 text
   pub written : IsWritten usual (form_of format) set theme syntax text all first
 
--- a fault of the file: it wasn't opened, for this fault; or it was, and then not read, or it is no
--- text
+-- a fault of the file: it wasn't opened, for this fault; or it was, and then not read further, or it
+-- is no text
 abbrev pub IsFaultOfFile : (Told : Answer → Type 0) → List ℕ → Error → Type 0
-IsFaultOfFile Told path (error.Io e) = IsFileFault Told path e
+IsFaultOfFile Told path (error.Io e) = IsTextFault Told path e
 IsFaultOfFile Told path e = Unit {0}

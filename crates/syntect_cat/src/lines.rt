@@ -9,6 +9,7 @@ use crate::below::base::limits::Limits;
 use crate::below::base::tree::Tree;
 use crate::below::easy::Error;
 use crate::below::easy::easy::HighlightFile;
+use crate::below::easy::reading::FileLines;
 use crate::below::parsing::syntax_set::SyntaxSet;
 use crate::below::theme::theme::Theme;
 use crate::job::Format;
@@ -38,8 +39,13 @@ pub(crate) fn text_of_file<T: Tree>(
         Ok(opened) => opened,
         Err(e) => return Err(e),
     };
-    let (lines, form) = (file.highlight_lines, format.form());
-    let written = text_of_lines(alloc, file.reader, lines, form, set, theme, &limits);
+    let lines = FileLines {
+        tree,
+        path: path.as_str(),
+        reader: file.reader,
+    };
+    let (highlighter, form) = (file.highlight_lines, format.form());
+    let written = text_of_lines(alloc, lines, highlighter, form, set, theme, &limits);
     let (text, first) = match written {
         Ok(written) => written,
         Err(e) => return Err(e),

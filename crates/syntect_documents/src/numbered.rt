@@ -4,28 +4,30 @@ ghost use Rattle.std.specs.Path.{path_bytes};
 ghost use Rattle.syntect_documents.specs.syntect_grammar_loader.declared.definition.SyntaxDefinition.{SyntaxDefinition as ADefinition};
 ghost use Rattle.syntect_documents.specs.syntect_grammar_contexts.declared.syntax_reference.SyntaxReference.{SyntaxReference as ASyntax};
 ghost use Rattle.syntect_documents.specs.syntect_easy.Built.{IsBuilt, IsSyntaxOfBuilt};
+ghost use Rattle.syntect_documents.specs.syntect_easy.Files.{FaultsAre, IsLineFault};
 ghost use Rattle.syntect_documents.specs.syntect_easy.Leads.{Leads};
 ghost use Rattle.syntect_documents.specs.syntect_easy.Rows.{IsTextOf};
 ghost use Rattle.syntect_documents.specs.syntect_assets.Assets.{RefusesLine, RefusesText, language_named};
-ghost use Rattle.syntect_documents.specs.syntect_assets.Refusals.{RefusesReading, TellsFile};
+ghost use Rattle.syntect_documents.specs.syntect_assets.Refusals.{RefusesReading};
 ghost use Rattle.syntect_documents.specs.Numbered.{IsNumbered, NumbersFile, NumbersIn, NumbersText, numbered_line};
 
-use crate::below::assets::assets::{Assets, Shown};
+use crate::below::assets::assets::{Assets, Shown, refused_file};
 use crate::below::assets::error::AssetsError;
 use crate::below::assets::lines::{PlainLine, first_of};
 use crate::below::base::limits::Limits;
+use crate::below::base::lines::ReadLines;
 use crate::below::base::tree::Tree;
 use crate::below::easy::Error;
 use crate::below::easy::easy::{HighlightFile, HighlightLines};
 use crate::below::easy::html::{IncludeBackground, SpanWriter, start_highlighted_html_snippet};
-use crate::below::easy::laws::lines_within_limits;
-use crate::below::easy::reading::{next_line, text_of};
+use crate::below::easy::laws::{lines_of_readers, lines_within_limits};
+use crate::below::easy::reading::{FileLines, next_line, text_of};
 use crate::below::parsing::syntax_set::{SyntaxReference, SyntaxSet};
 use crate::below::theme::style::Style;
 use crate::below::theme::theme::Theme;
 use crate::lines::{LineForm, push_line_tag};
 use std::alloc::{AllocError, Global};
-use std::io::{BufRead, Error as IoError, ErrorKind};
+use std::fmt;
 use std::path::Path;
 
 /// What ends a line.
@@ -52,30 +54,32 @@ fn push_numbered(
     Ok(())
 }
 
-/// What a reader gives, by a highlighter that has read nothing yet, and the first line that is
-/// shown plain because it reached a limit.
-fn numbered_lines<R: BufRead + Drop>(
+/// What a reader's lines are, by a highlighter that has read nothing yet, and the first line that is
+/// shown plain because it reached a limit. `Fmt` where the numbers come to 2^64 - 1.
+fn numbered_lines<L: ReadLines + Drop>(
     alloc: Global,
-    mut reader: R,
+    mut lines: L,
     mut highlighter: HighlightLines<'_>,
     form: LineForm<'_>,
     set: &SyntaxSet,
     theme: &Theme,
     limits: &Limits,
 ) -> Result<(String, Option<PlainLine>), Error>
-    ensures { (definitions : List ADefinition) (syntax : ASyntax)
+    ensures text { (definitions : List ADefinition) (syntax : ASyntax)
         → IsSyntaxOfBuilt set.now syntax definitions
         → Leads set.now theme.now syntax [] [] highlighter.entry
-        → IfOk result (λ r. (text : List ℕ) × IsTextOf (R.remaining reader) text × IsUtf8 text
+        → IfOk result (λ r. (text : List ℕ) × IsTextOf (L.ahead lines) text × IsUtf8 text
         × IsNumbered limits.now form.entry set.now theme.now syntax text (string_bytes r.0) r.1) }
+    ensures faults { IfErr result (FaultsAre (IsLineFault (L.failed lines) (L.ahead lines))) }
 {
     lines_within_limits();
+    lines_of_readers();
     let (mut page, color) = start_highlighted_html_snippet(alloc, theme)?;
     let mut spans = SpanWriter::new(alloc, IncludeBackground::IfDifferent(color));
     let mut bytes = Vec::new(alloc);
     let mut first = None;
     for number in form.first..u64::MAX {
-        if !next_line(&mut reader, &mut bytes)? {
+        if !next_line(&mut lines, &mut bytes)? {
             page.push_str(CLOSING)?;
             return Ok((page, first));
         }
@@ -84,7 +88,7 @@ fn numbered_lines<R: BufRead + Drop>(
         push_numbered(&mut page, &mut spans, form, number, pieces.as_slice())?;
         first = first_of(first, number - form.first, limit);
     }
-    Err(Error::Io(IoError::new(ErrorKind::Other, "too many lines")))
+    Err(Error::Fmt(fmt::Error))
 }
 
 /// A text in a syntax of the set, by a theme, as HTML with inline styles: the page of `Format::Html`
@@ -93,7 +97,7 @@ fn numbered_lines<R: BufRead + Drop>(
 /// the number of the first line is.
 ///
 /// `NotShown` with the line's refusal, with `MissingMainContext` where the syntax has no context
-/// `__start`, and where the numbers of lines come to 2^64 - 1.
+/// `__start`, and with `Fmt` where the numbers of lines come to 2^64 - 1.
 pub fn numbered_in(
     assets: &Assets,
     alloc: Global,
@@ -144,25 +148,12 @@ pub fn numbered_text(
     numbered_in(assets, alloc, text, syntax, theme, form)
 }
 
-/// Why a file isn't shown: that it isn't read comes with its path.
-fn refused_file(alloc: Global, path: Path<'_>, e: Error) -> Result<AssetsError, AllocError>
-    ensures { IfOk result (TellsFile e) }
-{
-    match e {
-        Error::Io(e) => {
-            let told = format!(in alloc; "{}: {e}", path.as_str())?;
-            Ok(AssetsError::NotRead(told))
-        }
-        e => Ok(AssetsError::from(e)),
-    }
-}
-
 /// What a file holds, as by `numbered_in`, in the syntax that `SyntaxSet::find_syntax_for_file`
 /// finds, or else as plain text.
 ///
-/// `NotRead` with the path where the file isn't read or isn't UTF-8, and where the numbers of lines
-/// come to 2^64 - 1; `NotShown` with the line's refusal, or with `NoSyntax` where no syntax fits
-/// and there is no plain text.
+/// `NotRead` with the path where the file isn't read or isn't UTF-8; `NotShown` with the line's
+/// refusal, with `NoSyntax` where no syntax fits and there is no plain text, and with `Fmt` where
+/// the numbers of lines come to 2^64 - 1.
 pub fn numbered_file<T: Tree>(
     assets: &Assets,
     tree: &T,
@@ -175,7 +166,8 @@ pub fn numbered_file<T: Tree>(
     ensures shown { (definitions : List ADefinition) → IsBuilt assets.now.set definitions
         → IfOk result (NumbersFile (T.told tree.now) assets.now (path_bytes path.entry)
         theme.now form.entry) }
-    ensures refused { IfErr result (RefusesReading (T.told tree.now) (path_bytes path.entry)) }
+    ensures refused { IfErr result (RefusesReading (T.told tree.now)
+        assets.now.limits assets.now.set (path_bytes path.entry)) }
 {
     let limits = &assets.limits;
     let opened = HighlightFile::new_or_plain(tree, alloc, path, &assets.set, theme, limits);
@@ -183,8 +175,13 @@ pub fn numbered_file<T: Tree>(
         Ok(opened) => opened,
         Err(e) => return Err(refused_file(alloc, path, e)?),
     };
-    let lines = file.highlight_lines;
-    let written = numbered_lines(alloc, file.reader, lines, form, &assets.set, theme, limits);
+    let lines = FileLines {
+        tree,
+        path: path.as_str(),
+        reader: file.reader,
+    };
+    let highlighter = file.highlight_lines;
+    let written = numbered_lines(alloc, lines, highlighter, form, &assets.set, theme, limits);
     let (text, plain) = match written {
         Ok(written) => written,
         Err(e) => return Err(refused_file(alloc, path, e)?),

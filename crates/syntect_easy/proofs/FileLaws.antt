@@ -27,10 +27,10 @@ use Rattle.std.specs.Io.KnownBytes.{Keeps}
 use Rattle.std.specs.declared.io.Error.{Error as IoError}
 use Rattle.std.specs.declared.io.ErrorKind.{ErrorKind}
 use Rattle.std.specs.declared.io.ErrorKind.TheVariants.{OutOfMemory}
-use Rattle.syntect_easy.specs.syntect_base.Trees.{Answer, opened}
+use Rattle.syntect_easy.specs.syntect_base.Trees.{Answer, opened, not_read_on}
 use Rattle.syntect_easy.specs.syntect_grammar.Passing.{from_kind, from_io}
 use Rattle.syntect_easy.specs.Rows.{IsTextOf}
-use Rattle.syntect_easy.specs.Files.{IsTextOfFile, IsSyntaxFor, IsSyntaxWithin, IsPlainInstead, IsToldSyntax, IsToldWithin, IsFirstOf, IsAskedOf, HasNoLines, HasNoLinesWithin, LacksInstead, IsPageOfFile, HasNoPageOfFile}
+use Rattle.syntect_easy.specs.Files.{IsTextOfFile, IsSyntaxFor, IsSyntaxWithin, IsPlainInstead, IsToldSyntax, IsToldWithin, IsFirstOf, IsAskedOf, IsLineFault, HasNoLines, HasNoLinesWithin, LacksInstead, IsPageOfFile, HasNoPageOfFile}
 use Rattle.syntect_easy.specs.Leads.{LacksStart}
 use Rattle.syntect_easy.specs.Pages.{IsPageOfBytes, IsStopped, IsReadFault}
 
@@ -147,33 +147,33 @@ module _ (set : SyntaxSet) (path : List ℕ) (left : Option (List ℕ)) (syntax 
 
 -- ---- no lines ----
 
-pub not_read : (Faults : IoError → Type 0) → ((e : IoError) → Faults e) → (set : SyntaxSet) (path : List ℕ) (e : Error) → IsReadFault e → HasNoLines Faults set path e
-not_read Faults any set path (error.Io e) n = any e
-not_read Faults any set path error.Memory n = tt
-not_read Faults any set path (error.ParsingError e) n = absurd n
-not_read Faults any set path (error.ScopeError e) n = absurd n
-not_read Faults any set path (error.LoadingError e) n = absurd n
-not_read Faults any set path (error.Fmt e) n = absurd n
-not_read Faults any set path error.NoSyntax n = absurd n
-not_read Faults any set path (error.ParseSyntax e) n = absurd n
-not_read Faults any set path (error.ParseScope e) n = absurd n
-not_read Faults any set path (error.Pattern e) n = absurd n
+pub not_read : (Faults : IoError → Type 0) (set : SyntaxSet) (path : List ℕ) (e : Error) → IsReadFault Faults e → HasNoLines Faults set path e
+not_read Faults set path (error.Io e) n = n
+not_read Faults set path error.Memory n = tt
+not_read Faults set path (error.ParsingError e) n = absurd n
+not_read Faults set path (error.ScopeError e) n = absurd n
+not_read Faults set path (error.LoadingError e) n = absurd n
+not_read Faults set path (error.Fmt e) n = absurd n
+not_read Faults set path error.NoSyntax n = absurd n
+not_read Faults set path (error.ParseSyntax e) n = absurd n
+not_read Faults set path (error.ParseScope e) n = absurd n
+not_read Faults set path (error.Pattern e) n = absurd n
 
-pub no_start_for : (Faults : IoError → Type 0) → ((e : IoError) → Faults e) → (set : SyntaxSet) (path : List ℕ) (syntax : SyntaxReference) (e : Error) → IsSyntaxFor set path syntax → LacksStart syntax e → HasNoLines Faults set path e
-no_start_for Faults any set path syntax (error.Io e) s l = any e
-no_start_for Faults any set path syntax error.Memory s l = tt
-no_start_for Faults any set path syntax (error.ParsingError e) s l = (syntax, s, l)
-no_start_for Faults any set path syntax (error.ScopeError e) s l = absurd l
-no_start_for Faults any set path syntax (error.LoadingError e) s l = absurd l
-no_start_for Faults any set path syntax (error.Fmt e) s l = absurd l
-no_start_for Faults any set path syntax error.NoSyntax s l = absurd l
-no_start_for Faults any set path syntax (error.ParseSyntax e) s l = absurd l
-no_start_for Faults any set path syntax (error.ParseScope e) s l = absurd l
-no_start_for Faults any set path syntax (error.Pattern e) s l = absurd l
+pub no_start_for : (Faults : IoError → Type 0) (set : SyntaxSet) (path : List ℕ) (syntax : SyntaxReference) (e : Error) → IsSyntaxFor set path syntax → LacksStart syntax e → HasNoLines Faults set path e
+no_start_for Faults set path syntax (error.Io e) s l = absurd l
+no_start_for Faults set path syntax error.Memory s l = tt
+no_start_for Faults set path syntax (error.ParsingError e) s l = (syntax, s, l)
+no_start_for Faults set path syntax (error.ScopeError e) s l = absurd l
+no_start_for Faults set path syntax (error.LoadingError e) s l = absurd l
+no_start_for Faults set path syntax (error.Fmt e) s l = absurd l
+no_start_for Faults set path syntax error.NoSyntax s l = absurd l
+no_start_for Faults set path syntax (error.ParseSyntax e) s l = absurd l
+no_start_for Faults set path syntax (error.ParseScope e) s l = absurd l
+no_start_for Faults set path syntax (error.Pattern e) s l = absurd l
 
 -- the faults of a file that was opened are faults of the file
-pub faults_in : (Faults Others : IoError → Type 0) → ((e : IoError) → Others e) → (set : SyntaxSet) (path : List ℕ) (e : Error) → HasNoLines Faults set path e → HasNoLines Others set path e
-faults_in Faults Others any set path (error.Io e) h = any e
+pub faults_in : (Faults Others : IoError → Type 0) → ((e : IoError) → Faults e → Others e) → (set : SyntaxSet) (path : List ℕ) (e : Error) → HasNoLines Faults set path e → HasNoLines Others set path e
+faults_in Faults Others any set path (error.Io e) h = any e h
 faults_in Faults Others any set path error.Memory h = h
 faults_in Faults Others any set path (error.ParsingError e) h = h
 faults_in Faults Others any set path (error.ScopeError e) h = h
@@ -224,18 +224,11 @@ pub told_is_for : (limits : Limits) (set : SyntaxSet) (path : List ℕ) (left : 
 told_is_for limits set path left syntax None h = h.is_for
 told_is_for limits set path left syntax (Some l) h = h
 
--- a fault of a file that was opened, or lack of memory
-pub not_read_within : (limits : Limits) (set : SyntaxSet) (path : List ℕ) (e : Error) → IsReadFault e → HasNoLinesWithin (λ _. Unit {0}) limits set path e
-not_read_within limits set path e n = inl (not_read (λ _. Unit {0}) (λ x. tt) set path e n)
+pub no_start_within : (Faults : IoError → Type 0) (limits : Limits) (set : SyntaxSet) (path : List ℕ) (syntax : SyntaxReference) (o : Option FirstLineLimit) (e : Error) → IsSyntaxWithin limits set path syntax o → LacksStart syntax e → HasNoLinesWithin Faults limits set path e
+no_start_within Faults limits set path syntax None e s l = inl (no_start_for Faults set path syntax e s l)
+no_start_within Faults limits set path syntax (Some x) e s l = inr (record { limited = s.limited; unnamed = s.unnamed; lacks = inr (syntax, s.plain, l) })
 
-pub no_plain_within : (Faults : IoError → Type 0) (limits : Limits) (set : SyntaxSet) (path : List ℕ) (e : Error) → limit_of limits.steps ≢ None → None ≡ found_by_file_name set path → None ≡ found_plain_text set → e ≡ error.NoSyntax → HasNoLinesWithin Faults limits set path e
-no_plain_within Faults limits set path e n f g same = inr (record { limited = n; unnamed = sym f; lacks = inl (sym g, same) })
-
-pub no_start_within : (Faults : IoError → Type 0) → ((e : IoError) → Faults e) → (limits : Limits) (set : SyntaxSet) (path : List ℕ) (syntax : SyntaxReference) (o : Option FirstLineLimit) (e : Error) → IsSyntaxWithin limits set path syntax o → LacksStart syntax e → HasNoLinesWithin Faults limits set path e
-no_start_within Faults any limits set path syntax None e s l = inl (no_start_for Faults any set path syntax e s l)
-no_start_within Faults any limits set path syntax (Some x) e s l = inr (record { limited = s.limited; unnamed = s.unnamed; lacks = inr (syntax, s.plain, l) })
-
-pub faults_within : (Faults Others : IoError → Type 0) → ((e : IoError) → Others e) → (limits : Limits) (set : SyntaxSet) (path : List ℕ) (e : Error) → HasNoLinesWithin Faults limits set path e → HasNoLinesWithin Others limits set path e
+pub faults_within : (Faults Others : IoError → Type 0) → ((e : IoError) → Faults e → Others e) → (limits : Limits) (set : SyntaxSet) (path : List ℕ) (e : Error) → HasNoLinesWithin Faults limits set path e → HasNoLinesWithin Others limits set path e
 faults_within Faults Others any limits set path e (inl h) = inl (faults_in Faults Others any set path e h)
 faults_within Faults Others any limits set path e (inr h) = inr h
 
@@ -266,6 +259,11 @@ text_kept None seen text k t = tt
 text_kept (Some xs) None text k t = absurd k
 text_kept (Some xs) (Some ys) text k t = t ∙ k
 
+-- and so are the faults of its lines
+pub line_fault_kept : (Failed : IoError → Type 0) (left seen : Option (List ℕ)) → Keeps left seen → (e : IoError) → IsLineFault Failed seen e → IsLineFault Failed left e
+line_fault_kept Failed left seen k e (inl f) = inl f
+line_fault_kept Failed left seen k e (inr h) = inr (h.0, h.1, text_kept left seen h.1 k h.2, h.3)
+
 module _ (Told : Answer → Type 0) (set : SyntaxSet) (path : List ℕ) (syntax : SyntaxReference) (left seen : Option (List ℕ)) (told : Told (opened path left)) (kept : Keeps left seen) (by : IsToldSyntax set path left syntax) where
   text_of_file : (text : List ℕ) → IsTextOf seen text → IsTextOfFile Told set path syntax text
   text_of_file text t = record { left = left; told = told; told_by = by; whole = text_kept left seen text kept t }
@@ -276,6 +274,6 @@ module _ (Told : Answer → Type 0) (set : SyntaxSet) (path : List ℕ) (syntax 
   page_of_file view theme (Err e) h = tt
 
   pub no_page_of_file : {A : Type 0} (result : Result A Error)
-      → IfErr result (λ e. (text : List ℕ) × IsTextOf seen text × IsStopped set syntax text e) → IfErr result (HasNoPageOfFile Told set path)
+      → IfErr result (λ e. (text : List ℕ) × IsTextOf seen text × IsStopped (λ e. Told (not_read_on path e)) set syntax text e) → IfErr result (HasNoPageOfFile Told set path)
   no_page_of_file (Ok page) h = tt
   no_page_of_file (Err e) h = inr (syntax, h.0, text_of_file h.0 h.1, h.2)

@@ -1,9 +1,12 @@
 -- The first line of bytes.
-use Rattle.std.proofs.Common.{◌≡◌, ℕ, suc, ◌+◌, ◌==◌, nat_lt, cond, Bool, true, false, List, [], ◌∷◌, length, take, Option, Some, None, refl, ap, subst, ◌∙◌, arith}
+use Rattle.std.proofs.Common.{◌≡◌, ℕ, suc, ◌+◌, ◌==◌, nat_lt, cond, Bool, true, false, List, [], ◌∷◌, ◌++◌, length, take, Option, Some, None, refl, ap, subst, ◌∙◌, arith}
 use Rattle.std.specs.Prelude.{IfSome}
 use Rattle.std.specs.List.{position, position_or_len}
 use Rattle.std.specs.Io.{StartsWith}
 use Rattle.std.specs.Io.BufRead.{take_through}
+use Rattle.std.specs.Io.Buffered.{reader_buffer, reader_capacity, reader_inner, reader_remaining}
+use Rattle.std.specs.Io.KnownBytes.{Keeps, prepend_known}
+use Rattle.std.specs.declared.io.buffered.BufReader.{BufReader}
 use Rattle.std.proofs.lemmas.Bool.Decides.{nat_tests}
 use Rattle.std.proofs.lemmas.List.{take_all}
 
@@ -68,3 +71,19 @@ front_of_front (x ∷ xs) (y ∷ ys) (z ∷ zs) e f =
 pub front_known : (left : Option (List ℕ)) (bytes line : List ℕ) → IfSome left (λ xs. StartsWith xs bytes) → StartsWith (take_through 10 bytes) line → IfSome left (λ xs. StartsWith (take_through 10 xs) line)
 front_known None bytes line h e = tt
 front_known (Some xs) bytes line h e = front_of_front (take_through 10 xs) (take_through 10 bytes) line (front_through xs bytes h) e
+
+-- ---- the buffer of a reader ----
+
+starts_appended : (front rest : List ℕ) → StartsWith (front ++ rest) front
+starts_appended [] rest = refl
+starts_appended (x ∷ front) rest = ap (λ xs. x ∷ xs) (starts_appended front rest)
+
+-- what stands in the buffer is a front of what is left
+pub front_ahead : {F A : Type 0} (remaining : F → Option (List ℕ)) (r : BufReader F A) (had : Option (List ℕ)) → Keeps had (reader_remaining remaining r) → IfSome had (λ xs. StartsWith xs (reader_buffer r))
+front_ahead remaining r None k = tt
+front_ahead remaining r (Some xs) k = by (reader_capacity r == 0) (remaining (reader_inner r)) k
+  where
+    by : (b : Bool) (rest : Option (List ℕ)) → Keeps (Some xs) (cond b None (prepend_known (reader_buffer r) rest)) → StartsWith xs (reader_buffer r)
+    by true rest h = absurd h
+    by false None h = absurd h
+    by false (Some ys) h = subst (λ zs. StartsWith zs (reader_buffer r)) h (starts_appended (reader_buffer r) ys)

@@ -12,7 +12,7 @@ use Rattle.syntect_writers.specs.Lines.{lines_of, before_lines}
 use Rattle.syntect_parsing.specs.States.{standing}
 use Rattle.syntect_easy.specs.Leads.{reader_of}
 use Rattle.syntect_easy.specs.Pages.{Row, AreUtf8, lines_in}
-use Rattle.syntect_easy.specs.Rows.{IsTextOf, can_go_on, CanFollow, GivesNext, IsLeft, RowsBegin, RowsGoOn, RowsEnd}
+use Rattle.syntect_easy.specs.Rows.{IsTextOf, can_go_on, CanFollow, GivesNext, IsLeft, RowsBegin, RowsGoOn, RowsEnd, ReadingBegins, ReadingGoesOn, ReadingFindsNoText}
 use Rattle.syntect_easy.proofs.PageLaws.{map_last, shown_none, shown_last}
 
 -- ---- lines of bytes ----
@@ -184,8 +184,6 @@ pub text_with_rest : (had left : Option (List ℕ)) (done last : List ℕ) → I
 text_with_rest None left done last k = ([], λ _. refl, tt)
 text_with_rest (Some text) left done last k = (k.0, k.3, sym k.2)
 
--- ---- rows ----
-
 are_last : (xs : List Row) (x : Row) → AreUtf8 (lines_in xs) → IsUtf8 x.line → AreUtf8 (lines_in (xs ++ x ∷ []))
 are_last [] x a u = (u, tt)
 are_last (y ∷ ys) x a u = (a.0, are_last ys x a.1 u)
@@ -197,6 +195,34 @@ lines_more done last bytes line rest rows s some stops more e f =
     ap (λ xs. rows ++ xs) (ap (λ x. x ∷ lines_of rest) e ∙ sym (begins_with bytes rest some stops f))
     ∙ s (bytes ++ rest) (λ h. absurd (let q : true ≡ false = sym more ∙ h in cc))
     ∙ ap lines_of (sym (append_assoc done bytes rest))
+
+-- ---- lines alone ----
+
+pub reading_begins : ReadingBegins
+reading_begins had last e = record { done = []; lines = []; are = λ rest _. refl; is_left = all_left had last e }
+
+pub reading_goes_on : ReadingGoesOn
+reading_goes_on had left after last bytes s g = record {
+  done = s.done ++ bytes;
+  lines = s.lines ++ bytes ∷ [];
+  are = λ rest can.
+      append_assoc s.lines (bytes ∷ []) (lines_of rest)
+      ∙ lines_more s.done last bytes bytes rest s.lines s.are g.0 g.1 g.2 refl can;
+  is_left = less_left had left after s.done last bytes s.is_left g;
+}
+
+pub reading_finds_no_text : ReadingFindsNoText
+reading_finds_no_text had left after last bytes s g u =
+    let t = text_with_rest had after (s.done ++ bytes) bytes (less_left had left after s.done last bytes s.is_left g) in
+    ((s.done ++ bytes) ++ t.0, t.2, record {
+      before = s.lines;
+      line = bytes;
+      after = lines_of t.0;
+      lines = lines_more s.done last bytes bytes t.0 s.lines s.are g.0 g.1 g.2 refl t.1;
+      no_text = u;
+    })
+
+-- ---- rows ----
 
 pub rows_begin : RowsBegin
 rows_begin set theme syntax had last h l e = record {

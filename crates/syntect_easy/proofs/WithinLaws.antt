@@ -10,6 +10,11 @@ use Rattle.syntect_parsing.specs.Laws.{AnswersMore}
 use Rattle.syntect_parsing.specs.Line.{Answer}
 use Rattle.syntect_parsing.specs.States.{standing}
 use Rattle.syntect_parsing.specs.Within.{RefusesWithinOrMemory, ReachesLimit as ReachesLineLimit}
+use Rattle.syntect_easy.specs.syntect_grammar_contexts.declared.error.ParsingError.{ParsingError}
+use Rattle.syntect_easy.specs.syntect_grammar_contexts.declared.error.ParsingError.TheVariants as parsing
+use Rattle.syntect_easy.specs.syntect_scope.declared.stack.ScopeError.{ScopeError}
+use Rattle.syntect_easy.specs.syntect_scope.declared.stack.ScopeError.TheVariants as scope
+use Rattle.syntect_easy.specs.syntect_grammar.Passing.{from_parsing, from_scope}
 use Rattle.syntect_parsing.specs.declared.within.ReadWithinError.{ReadWithinError}
 use Rattle.syntect_parsing.specs.declared.within.ReadWithinError.TheVariants as reading
 use Rattle.syntect_easy.specs.syntect_grammar_contexts.declared.syntax_reference.SyntaxReference.{SyntaxReference}
@@ -18,7 +23,7 @@ use Rattle.syntect_easy.specs.syntect_grammar_loader.declared.definition.SyntaxD
 use Rattle.syntect_easy.specs.Classed.{RefusesLineOf, set_in, state_in}
 use Rattle.syntect_easy.specs.Leads.{HoldsSame, Leads, RefusedForUnresolved, reader_of}
 use Rattle.syntect_parsing.specs.declared.parser.Standing.{Standing}
-use Rattle.syntect_easy.specs.Within.{ReachesLimit, TellsWhere, from_reading, refusal_of}
+use Rattle.syntect_easy.specs.Within.{IsNoReadFault, ReachesLimit, RefusesNoReadFault, TellsWhere, from_reading, refusal_of}
 use Rattle.syntect_easy.proofs.ClassedLaws.{line_refused}
 use Rattle.syntect_easy.proofs.ExactLaws.{Premises, exact_refused}
 use Rattle.syntect_easy.proofs.LeadLaws.{LeadsOn, lead_refused}
@@ -52,3 +57,20 @@ limit_passed limits turns steps (reading.LimitReached x) h = h
 pub limit_there : (set : SyntaxSet) (line : List ℕ) (state : Standing) (w : ReadWithinError) → RefusesWithinOrMemory dialect set line state w → TellsWhere set line state (from_reading w)
 limit_there set line state (reading.Refused e) r = tt
 limit_there set line state (reading.LimitReached x) r = r.1
+
+-- ---- refusals are no faults of reading ----
+
+pub parsing_no_fault : (e : ParsingError) → IsNoReadFault (from_parsing e)
+parsing_no_fault parsing.Memory = tt
+parsing_no_fault parsing.MissingMainContext = tt
+parsing_no_fault (parsing.MissingContext id) = tt
+parsing_no_fault (parsing.BadMatchIndex i) = tt
+parsing_no_fault (parsing.UnresolvedContextReference r) = tt
+
+pub reading_no_fault : (e : ReadWithinError) → RefusesNoReadFault (from_reading e)
+reading_no_fault (reading.Refused e) = parsing_no_fault e
+reading_no_fault (reading.LimitReached l) = tt
+
+pub scope_no_fault : (e : ScopeError) → IsNoReadFault (from_scope e)
+scope_no_fault scope.Memory = tt
+scope_no_fault scope.NoClearedScopesToRestore = tt

@@ -8,7 +8,7 @@ use Rattle.syntect_easy.specs.syntect_base.declared.limits.Limits.{Limits}
 use Rattle.syntect_grammar_limits.specs.declared.first_line_error.FirstLineLimit.{FirstLineLimit}
 use Rattle.syntect_easy.specs.syntect_theme.declared.theme.Theme.{Theme}
 use Rattle.std.specs.declared.io.Error.{Error as IoError}
-use Rattle.syntect_easy.specs.syntect_base.Trees.{Answer, opened, not_opened}
+use Rattle.syntect_easy.specs.syntect_base.Trees.{Answer, opened, not_opened, not_read_on}
 use Rattle.syntect_easy.specs.syntect_grammar.Finding.{found_for_file, found_by_file_name, found_plain_text}
 use Rattle.syntect_easy.specs.syntect_grammar.Link.{syntaxes_in}
 use Rattle.syntect_easy.specs.syntect_grammar_contexts.declared.syntax_reference.SyntaxReference.{SyntaxReference}
@@ -16,8 +16,8 @@ use Rattle.syntect_easy.specs.syntect_grammar.declared.syntax_set.SyntaxSet.{Syn
 use Rattle.syntect_easy.specs.syntect_grammar.declared.error.Error.{Error}
 use Rattle.syntect_easy.specs.syntect_grammar.declared.error.Error.TheVariants as error
 use Rattle.syntect_easy.specs.Leads.{LacksStart, OnlyParsing}
-use Rattle.syntect_easy.specs.Pages.{IsPageOfBytes, IsStopped}
-use Rattle.syntect_easy.specs.Rows.{IsTextOf}
+use Rattle.syntect_easy.specs.Pages.{IsPageOfBytes, IsStopped, TellsNoText}
+use Rattle.syntect_easy.specs.Rows.{IsTextOf, HasNoText}
 
 -- the syntax of the set that the path of a file tells, or else its first line, or else that of
 -- plain text
@@ -73,11 +73,37 @@ abbrev pub IsToldWithin : Limits → SyntaxSet → List ℕ → Option (List ℕ
 IsToldWithin limits set path left syntax None = IsToldSyntax set path left syntax
 IsToldWithin limits set path left syntax (Some limit) = IsPlainInstead limits set path syntax
 
--- a fault of a file that is read line by line: it was not opened, for this fault; or it was, and
--- then a line was not read, or is no text
+-- A fault of an opened file that has this left, as its first line is asked: the file was not read
+-- further, for this fault; or what was read at once begins with a line that is not UTF-8.
+abbrev pub IsFrontFault : (Told : Answer → Type 0) → List ℕ → Option (List ℕ) → IoError → Type 0
+IsFrontFault Told path left e =
+    Told (not_read_on path e)
+    ⊎ (TellsNoText e × (given : List ℕ) × IfSome left (λ xs. StartsWith xs given)
+    × ¬ (IsUtf8 (take_through 10 given)))
+
+-- a fault of a file as its first line is asked: it was not opened, for this fault; or it was, and
+-- then the front of it has the fault
 pub data IsFileFault (Told : Answer → Type 0) (path : List ℕ) (e : IoError) : Type 0 where
   file_unopened : Told (not_opened path e) → IsFileFault Told path e
-  file_unread : {left : Option (List ℕ)} → Told (opened path left) → IsFileFault Told path e
+  file_unread : {left : Option (List ℕ)} → Told (opened path left)
+      → IsFrontFault Told path left e → IsFileFault Told path e
+
+-- a fault of what gives lines: it failed so, or one of its text's lines is not UTF-8
+abbrev pub IsLineFault : (Failed : IoError → Type 0) → Option (List ℕ) → IoError → Type 0
+IsLineFault Failed left e =
+    Failed e ⊎ (TellsNoText e × (text : List ℕ) × IsTextOf left text × HasNoText text)
+
+-- a refusal is one of these faults, or no fault of reading
+abbrev pub FaultsAre : (Faults : IoError → Type 0) → Error → Type 0
+FaultsAre Faults (error.Io e) = Faults e
+FaultsAre Faults e = Unit {0}
+
+-- a fault of a file all lines of which are read
+abbrev pub IsTextFault : (Told : Answer → Type 0) → List ℕ → IoError → Type 0
+IsTextFault Told path e =
+    IsFileFault Told path e
+    ⊎ ((left : Option (List ℕ)) × Told (opened path left)
+    × IsLineFault (λ e. Told (not_read_on path e)) left e)
 
 -- no line of a file is read: no syntax is there for it, or the syntax has no `__start`, or the file
 -- is not read, for one of these faults, or there was no memory
@@ -123,4 +149,4 @@ abbrev pub HasNoPageOfFile : (Told : Answer → Type 0) → SyntaxSet → List �
 HasNoPageOfFile Told set path e =
     HasNoLines (IsFileFault Told path) set path e
     ⊎ ((syntax : SyntaxReference) × (text : List ℕ) × IsTextOfFile Told set path syntax text
-    × IsStopped set syntax text e)
+    × IsStopped (λ e. Told (not_read_on path e)) set syntax text e)

@@ -3,6 +3,9 @@ use Rattle.std.specs.Prelude.{◌≡◌, ℕ, List, [], ◌∷◌, ◌++◌, map
 use Rattle.std.specs.Str.{IsUtf8}
 use Rattle.std.specs.List.{flat_map}
 use Rattle.std.specs.Borrow.{Bor}
+use Rattle.std.specs.IoError.{error_kind}
+use Rattle.std.specs.declared.io.Error.{Error as IoError}
+use Rattle.std.specs.declared.io.ErrorKind.TheVariants.{InvalidData}
 use Rattle.syntect_style.specs.Pieces.{Joins, IsStyled}
 use Rattle.syntect_easy.specs.syntect_theme.declared.style.Style.{Style}
 use Rattle.syntect_easy.specs.syntect_theme.declared.theme.Theme.{Theme}
@@ -99,11 +102,20 @@ IsWhyNoPage set syntax text =
 
 -- ---- the text of a reader ----
 
--- a fault of reading, or lack of memory
-abbrev pub IsReadFault : Error → Type 0
-IsReadFault (error.Io e) = Unit {0}
-IsReadFault error.Memory = Unit {0}
-IsReadFault e = ⊥
+-- one of these faults, or lack of memory
+abbrev pub IsReadFault : (Faults : IoError → Type 0) → Error → Type 0
+IsReadFault Faults (error.Io e) = Faults e
+IsReadFault Faults error.Memory = Unit {0}
+IsReadFault Faults e = ⊥
+
+-- the fault tells that bytes are not UTF-8
+abbrev pub TellsNoText : IoError → Type 0
+TellsNoText e = error_kind e ≡ InvalidData
+
+-- the first of these lines is not UTF-8
+abbrev pub BeginWithNoText : List (List ℕ) → Type 0
+BeginWithNoText [] = ⊥
+BeginWithNoText (line ∷ lines) = ¬ (IsUtf8 line)
 
 -- The reader had this text, it is UTF-8, and the page shows it.
 abbrev pub IsPageOfBytes : SyntaxSet → Theme → SyntaxReference → List ℕ → List ℕ → Type 0
@@ -131,11 +143,17 @@ pub record IsReadUpTo (set : SyntaxSet) (syntax : SyntaxReference) (text : List 
   pub valid : AreUtf8 (lines_in rows)
 
 -- There is no page: a line is refused before one that is not UTF-8 and before a fault of the
--- reader, or such a fault comes after lines none of which is refused, or there was no memory.
-abbrev pub IsStopped : SyntaxSet → SyntaxReference → List ℕ → Error → Type 0
-IsStopped set syntax text (error.Io e) = IsReadUpTo set syntax text
-IsStopped set syntax text e = OnlyParsing (IsRefusedAtALineOfBytes set syntax text) e
+-- reader; or after lines none of which is refused the reader failed with this fault, or the next
+-- line is not UTF-8; or there was no memory.
+abbrev pub IsStopped : (Failed : IoError → Type 0) → SyntaxSet → SyntaxReference → List ℕ → Error
+    → Type 0
+IsStopped Failed set syntax text (error.Io e) =
+    (read : IsReadUpTo set syntax text)
+    × (Failed e ⊎ (TellsNoText e × BeginWithNoText read.rest))
+IsStopped Failed set syntax text e = OnlyParsing (IsRefusedAtALineOfBytes set syntax text) e
 
 -- The same, where the syntax is looked at first.
-abbrev pub HasNoPageOfBytes : SyntaxSet → SyntaxReference → List ℕ → Error → Type 0
-HasNoPageOfBytes set syntax text e = LacksStart syntax e ⊎ IsStopped set syntax text e
+abbrev pub HasNoPageOfBytes : (Failed : IoError → Type 0) → SyntaxSet → SyntaxReference → List ℕ
+    → Error → Type 0
+HasNoPageOfBytes Failed set syntax text e =
+    LacksStart syntax e ⊎ IsStopped Failed set syntax text e

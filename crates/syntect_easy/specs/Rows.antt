@@ -3,6 +3,7 @@ use Rattle.std.specs.Prelude.{◌≡◌, ℕ, ◌<◌, ◌==◌, Bool, true, fal
 use Rattle.std.specs.Borrow.{Bor}
 use Rattle.std.specs.Global.{Vec}
 use Rattle.std.specs.Io.{StopsAt}
+use Rattle.std.specs.declared.io.Error.{Error as IoError}
 use Rattle.syntect_easy.specs.syntect_theme.declared.style.Style.{Style}
 use Rattle.syntect_easy.specs.syntect_theme.declared.theme.Theme.{Theme}
 use Rattle.syntect_easy.specs.syntect_reading_choice.Engine.{dialect}
@@ -11,10 +12,10 @@ use Rattle.syntect_parsing.specs.declared.parser.Standing.{Standing}
 use Rattle.syntect_easy.specs.syntect_grammar_contexts.declared.syntax_reference.SyntaxReference.{SyntaxReference}
 use Rattle.syntect_easy.specs.syntect_grammar.declared.syntax_set.SyntaxSet.{SyntaxSet}
 use Rattle.syntect_writers.specs.Lines.{lines_of}
-use Rattle.syntect_easy.specs.Leads.{Leads, Continues}
+use Rattle.syntect_easy.specs.Leads.{Leads, Continues, OnlyParsing}
 use Rattle.syntect_easy.specs.syntect_grammar_loader.declared.definition.SyntaxDefinition.{SyntaxDefinition}
 use Rattle.syntect_easy.specs.syntect_grammar.declared.error.Error.{Error}
-use Rattle.syntect_easy.specs.Pages.{Row, AreShown, AreUtf8, IsReadFault, IsStopped, lines_in, answers_in, past_of}
+use Rattle.syntect_easy.specs.Pages.{Row, AreShown, AreUtf8, BeginWithNoText, IsReadUpTo, IsRefusedAtALineOfBytes, IsStopped, lines_in, answers_in, past_of}
 use Rattle.syntect_easy.specs.declared.easy.HighlightLines.{HighlightLines}
 
 -- ---- a reader ----
@@ -105,8 +106,10 @@ RowsEnd = (set : SyntaxSet) (theme : Theme) (syntax : SyntaxReference)
     → (text : List ℕ) × IsTextOf had text × IsUtf8 text × AreRowsOf set theme syntax text rows
 
 -- some text of the reader ends with this refusal
-abbrev pub HasStopped : SyntaxSet → SyntaxReference → Option (List ℕ) → Error → Type 0
-HasStopped set syntax had e = (text : List ℕ) × IsTextOf had text × IsStopped set syntax text e
+abbrev pub HasStopped : (Failed : IoError → Type 0) → SyntaxSet → SyntaxReference
+    → Option (List ℕ) → Error → Type 0
+HasStopped Failed set syntax had e =
+    (text : List ℕ) × IsTextOf had text × IsStopped Failed set syntax text e
 
 -- a line that is refused ends the rows
 abbrev pub RowsRefuse : Type 0
@@ -118,12 +121,58 @@ RowsRefuse =
     → AreRowsSoFar set theme syntax had left last rows h
     → Continues (past_of definitions theme syntax rows) set line new (Err e)
     → GivesNext left last after bytes true → line.now ≡ bytes → IsUtf8 bytes
-    → HasStopped set syntax had e
+    → (text : List ℕ) × IsTextOf had text
+    × OnlyParsing (IsRefusedAtALineOfBytes set syntax text) e
 
--- and so does a fault of reading, after them
+-- a fault of reading comes after lines that were read
 abbrev pub RowsStop : Type 0
 RowsStop =
     (set : SyntaxSet) (theme : Theme) (syntax : SyntaxReference) (had left : Option (List ℕ))
-    (last : List ℕ) (rows : List Row) (h : HighlightLines) (e : Error)
-    → AreRowsSoFar set theme syntax had left last rows h → IsReadFault e
-    → HasStopped set syntax had e
+    (last : List ℕ) (rows : List Row) (h : HighlightLines)
+    → AreRowsSoFar set theme syntax had left last rows h
+    → (text : List ℕ) × IsTextOf had text × IsReadUpTo set syntax text
+
+-- and so does a line that is not UTF-8, which is the next one
+abbrev pub RowsHaveNoText : Type 0
+RowsHaveNoText =
+    (set : SyntaxSet) (theme : Theme) (syntax : SyntaxReference)
+    (had left after : Option (List ℕ)) (last bytes : List ℕ) (rows : List Row)
+    (h : HighlightLines)
+    → AreRowsSoFar set theme syntax had left last rows h
+    → GivesNext left last after bytes true → ¬ (IsUtf8 bytes)
+    → (text : List ℕ) × IsTextOf had text × (read : IsReadUpTo set syntax text)
+    × BeginWithNoText read.rest
+
+-- ---- lines alone ----
+
+-- one of the text's lines is not UTF-8
+pub record HasNoText (text : List ℕ) : Type 0 where
+  pub before : List (List ℕ)
+  pub line : List ℕ
+  pub after : List (List ℕ)
+  pub lines : before ++ line ∷ after ≡ lines_of text
+  pub no_text : ¬ (IsUtf8 line)
+
+-- These lines were read of what a reader had, and this is left.
+pub record AreLinesSoFar (had left : Option (List ℕ)) (last : List ℕ) : Type 0 where
+  pub done : List ℕ
+  pub lines : List (List ℕ)
+  pub are : (rest : List ℕ) → CanFollow last rest → lines ++ lines_of rest ≡ lines_of (done ++ rest)
+  pub is_left : IsLeft had left done last
+
+-- there are none at first
+abbrev pub ReadingBegins : Type 0
+ReadingBegins = (had : Option (List ℕ)) (last : List ℕ) → last ≡ [] → AreLinesSoFar had had last
+
+-- the next line is one more
+abbrev pub ReadingGoesOn : Type 0
+ReadingGoesOn =
+    (had left after : Option (List ℕ)) (last bytes : List ℕ) → AreLinesSoFar had left last
+    → GivesNext left last after bytes true → AreLinesSoFar had after bytes
+
+-- where it is not UTF-8, the reader's text has such a line
+abbrev pub ReadingFindsNoText : Type 0
+ReadingFindsNoText =
+    (had left after : Option (List ℕ)) (last bytes : List ℕ) → AreLinesSoFar had left last
+    → GivesNext left last after bytes true → ¬ (IsUtf8 bytes)
+    → (text : List ℕ) × IsTextOf had text × HasNoText text

@@ -3,7 +3,7 @@ use Rattle.std.specs.Prelude.{ℕ, List, Result, Ok, Err}
 use Rattle.syntect_easy.specs.syntect_base.declared.limits.Limits.{Limits}
 use Rattle.syntect_easy.specs.syntect_grammar.Passing.{from_parsing}
 use Rattle.syntect_easy.specs.syntect_grammar.declared.error.Error.{Error}
-use Rattle.syntect_easy.specs.syntect_grammar.declared.error.Error.TheVariants.{Memory}
+use Rattle.syntect_easy.specs.syntect_grammar.declared.error.Error.TheVariants.{Memory, Io}
 use Rattle.syntect_easy.specs.syntect_grammar.declared.syntax_set.SyntaxSet.{SyntaxSet}
 use Rattle.syntect_easy.specs.syntect_reading_choice.Engine.{dialect}
 use Rattle.syntect_parsing.specs.Within.{IsThere, ReachesLimit as ReachesLineLimit}
@@ -27,6 +27,16 @@ refusal_of (LimitReached l) = Memory
 abbrev pub unlimited_of : {X : Type 0} → Result X HighlightWithinError → Result X Error
 unlimited_of (Ok x) = Ok x
 unlimited_of (Err e) = Err (refusal_of e)
+
+-- the refusal of a line is no fault of reading a file
+abbrev pub IsNoReadFault : Error → Type 0
+IsNoReadFault (Io e) = ⊥
+IsNoReadFault e = Unit {0}
+
+-- the same, unless a limit was reached
+abbrev pub RefusesNoReadFault : HighlightWithinError → Type 0
+RefusesNoReadFault (Refused e) = IsNoReadFault e
+RefusesNoReadFault (LimitReached l) = Unit {0}
 
 -- where a limit is reported, the line's reading comes to that place
 abbrev pub TellsWhere : SyntaxSet → List ℕ → Standing → HighlightWithinError → Type 0

@@ -3,7 +3,7 @@ ghost use Rattle.std.specs.Io.Buffered.{reader_remaining};
 ghost use Rattle.std.specs.Io.KnownBytes.{Keeps};
 ghost use Rattle.std.specs.Prelude.{◌≡◌, ◌++◌, ◌∷◌, ◌+◌, ◌-◌, ◌≤◌, [], List, ℕ, Option, None, Some, Err, IfOk, IfErr, IfSome, OnOk, OnErr};
 ghost use Rattle.std.specs.Path.{path_bytes};
-ghost use Rattle.syntect_easy.specs.Files.{IsFileFault, IsSyntaxFor, IsSyntaxWithin, IsToldSyntax, IsToldWithin, HasNoLines, HasNoLinesWithin};
+ghost use Rattle.syntect_easy.specs.Files.{IsFileFault, IsFrontFault, IsSyntaxFor, IsSyntaxWithin, IsToldSyntax, IsToldWithin, HasNoLines, HasNoLinesWithin};
 ghost use Rattle.syntect_easy.specs.syntect_grammar.Finding.{found_plain_text};
 ghost use Rattle.syntect_easy.specs.syntect_grammar.declared.error.Error.TheVariants.{NoSyntax};
 ghost use Rattle.syntect_easy.specs.Leads.{Leads};
@@ -23,7 +23,7 @@ use crate::reading::first_line;
 pub use crate::within::HighlightWithinError;
 use crate::within::refusal;
 use std::alloc::{AllocError, Global};
-use std::io::{BufRead, BufReader, Read};
+use std::io::{BufReader, Read};
 use std::mem;
 use std::path::Path;
 use syntect_grammar_limits::first_line_error::{FindWithinError, FirstLineLimit};
@@ -69,7 +69,7 @@ impl<'a> HighlightLines<'a> {
     ghost use Rattle.syntect_easy.specs.Leads.{Past, IsPast, Continues, HoldsSame, LacksStart, RefusedForUnresolved, UnlessLimited, UnlessMemory, reader_of, styles_of, theme_of};
     ghost use Rattle.syntect_easy.specs.Built.{StaysInStart};
     ghost use Rattle.syntect_easy.specs.PlainLines.{ArePlain, ContinuesWithin};
-    ghost use Rattle.syntect_easy.specs.Within.{ReachesLimit, TellsWhere, unlimited_of};
+    ghost use Rattle.syntect_easy.specs.Within.{ReachesLimit, TellsWhere, unlimited_of, IsNoReadFault, RefusesNoReadFault};
     ghost use Rattle.syntect_parsing.specs.Within.{KeepsLevels};
     ghost use Rattle.syntect_easy.specs.declared.within.HighlightWithinError.TheVariants.{LimitReached};
     ghost use Rattle.syntect_easy.specs.syntect_base.Limiting.{IsWithinLimit};
@@ -220,6 +220,7 @@ impl<'a> HighlightLines<'a> {
         // as `highlight_line` says, of the answer without limits
         ensures answered { (past : Past) → IsPast past syntax_set.now self.old
             → Continues past syntax_set.now line.entry self.new (unlimited_of result) }
+        ensures no_fault { IfErr result RefusesNoReadFault }
         ensures joins { IfOk result (λ pieces. Joins line.entry.now pieces.items) }
         ensures refused { (past : Past) → IsPast past syntax_set.now self.old
             → AreByName past.definitions → StaysInStart syntax_set.now past.syntax
@@ -300,6 +301,7 @@ impl<'a> HighlightLines<'a> {
         ensures refused { (past : Past) → IsPast past syntax_set.now self.old
             → IfErr result (λ e. Continues past syntax_set.now line.entry self.new (Err e)) }
         ensures err { OnErr result (HoldsSame self.old self.new) }
+        ensures no_fault { IfErr result IsNoReadFault }
         // how many turns and steps were made, by the numbers before and after: by a line that was
         // read all turns of its reading, else no more; where a limit is reported, as many as it has
         ensures taken { IfOk result (λ r. r.1 ≡ None
@@ -442,7 +444,7 @@ impl<'a, F: Read + Drop> HighlightFile<'a, F> {
             Ok(reader) => reader,
             Err(e) => return Err(Error::from(e)),
         };
-        let (syntax, limit) = match syntax_within(alloc, &mut reader, path, ss, limits) {
+        let (syntax, limit) = match syntax_within(tree, alloc, &mut reader, path, ss, limits) {
             Ok(found) => found,
             Err(e) => return Err(e),
         };
@@ -472,27 +474,31 @@ fn plain_text(ss: &SyntaxSet) -> Result<&SyntaxReference, Error>
 
 /// The syntax of a file that a reader has opened, or else plain text, with the limit if the first
 /// line reaches it. The reader's bytes stay.
-fn syntax_within<'s, R: BufRead>(
+fn syntax_within<'s, T: Tree>(
+    tree: &T,
     alloc: Global,
-    reader: &mut R,
+    reader: &mut BufReader<T::File>,
     path: Path<'_>,
     ss: &'s SyntaxSet,
     limits: &Limits,
 ) -> Result<(&'s SyntaxReference, Option<FirstLineLimit>), Error>
     ensures found { IfOk result (λ r. IsToldWithin limits.now ss.now (path_bytes path.entry)
-        (R.remaining reader.old) r.0.now r.1) }
-    ensures keeps { Keeps (R.remaining reader.old) (R.remaining reader.new) }
-    ensures refused { IfErr result
-        (HasNoLinesWithin (λ _. Unit {0}) limits.now ss.now (path_bytes path.entry)) }
+        (reader_remaining T.File.remaining reader.old) r.0.now r.1) }
+    ensures keeps { Keeps (reader_remaining T.File.remaining reader.old)
+        (reader_remaining T.File.remaining reader.new) }
+    ensures refused { IfErr result (HasNoLinesWithin
+        (IsFrontFault (T.told tree.now) (path_bytes path.entry)
+        (reader_remaining T.File.remaining reader.old))
+        limits.now ss.now (path_bytes path.entry)) }
 {
     if let Some(syntax) = ss.find_syntax_by_file_name(path) {
         return Ok((syntax, None));
     }
-    let bytes = match reader.fill_buf() {
-        Ok(bytes) => bytes,
+    match tree.fill(path.as_str(), reader) {
+        Ok(()) => {}
         Err(e) => return Err(Error::from(e)),
-    };
-    let line = match first_line(bytes) {
+    }
+    let line = match first_line(reader.buffer()) {
         Ok(line) => line,
         Err(e) => return Err(e),
     };

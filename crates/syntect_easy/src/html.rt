@@ -12,13 +12,13 @@ ghost use Rattle.syntect_easy.specs.Rows.{IsTextOf};
 ghost use Rattle.syntect_easy.specs.syntect_grammar_loader.declared.definition.SyntaxDefinition.{SyntaxDefinition as ADefinition};
 ghost use Rattle.syntect_easy.specs.syntect_grammar_contexts.declared.syntax_reference.SyntaxReference.{SyntaxReference as ASyntax};
 
+use crate::below::base::lines::ReadLines;
 use crate::below::base::tree::Tree;
 use crate::below::theme::theme::Theme;
 pub use crate::classed::{ClassStyle, ClassedHTMLGenerator, line_tokens_to_classed_spans};
 use crate::easy::{HighlightFile, HighlightLines};
-use crate::reading::{next_line, text_of};
+use crate::reading::{FileLines, next_line, text_of};
 use std::alloc::Global;
-use std::io::{BufRead, Error as IoError, ErrorKind};
 use std::path::Path;
 use syntect_parsing::error::Error;
 use syntect_parsing::syntax_set::{SyntaxReference, SyntaxSet};
@@ -63,11 +63,11 @@ pub fn highlighted_html_for_string(
 }
 
 /// What a reader gives, as HTML with inline styles: as `highlighted_html_for_string` for its bytes.
-/// Each line, up to and with its newline, is tested for UTF-8 and highlighted before the next is
-/// read; `Io` where reading fails or a line is not UTF-8, and no page then. What follows a line
-/// without a newline is not read.
+/// The reader is any `BufRead`, or what else gives lines. Each line, up to and with its newline, is
+/// tested for UTF-8 and highlighted before the next is read; `Io` where reading fails or a line is
+/// not UTF-8, and no page then. What follows a line without a newline is not read.
 #[tactic(auto, using(crate::proofs::ReaderLaws::no_page_of_bytes))]
-pub fn highlighted_html_for_reader<R: BufRead + Drop>(
+pub fn highlighted_html_for_reader<R: ReadLines + Drop>(
     alloc: Global,
     reader: R,
     ss: &SyntaxSet,
@@ -76,12 +76,12 @@ pub fn highlighted_html_for_reader<R: BufRead + Drop>(
 ) -> Result<String, Error>
     // the set was built of plain definitions; the text is that of the reader, if it tells its bytes
     ensures page { (definitions : List ADefinition) → IsSyntaxOfBuilt ss.now syntax.now definitions
-        → IfOk result (λ page. (text : List ℕ) × IsTextOf (R.remaining reader) text
+        → IfOk result (λ page. (text : List ℕ) × IsTextOf (R.ahead reader) text
         × IsPageOfBytes ss.now theme.now syntax.now text (string_bytes page)) }
     ensures refused { (definitions : List ADefinition)
         → IsSyntaxOfBuilt ss.now syntax.now definitions
-        → IfErr result (λ e. (text : List ℕ) × IsTextOf (R.remaining reader) text
-        × HasNoPageOfBytes ss.now syntax.now text e) }
+        → IfErr result (λ e. (text : List ℕ) × IsTextOf (R.ahead reader) text
+        × HasNoPageOfBytes (R.failed reader) ss.now syntax.now text e) }
 {
     let highlighter = HighlightLines::new(alloc, syntax, theme)?;
     page_of_lines(alloc, reader, highlighter, ss, theme)
@@ -105,13 +105,20 @@ pub fn highlighted_html_for_file<T: Tree>(
         → IfErr result (HasNoPageOfFile (T.told tree.now) ss.now (path_bytes path.entry)) }
 {
     match HighlightFile::new(tree, alloc, path, ss, theme) {
-        Ok(file) => page_of_lines(alloc, file.reader, file.highlight_lines, ss, theme),
+        Ok(file) => {
+            let lines = FileLines {
+                tree,
+                path: path.as_str(),
+                reader: file.reader,
+            };
+            page_of_lines(alloc, lines, file.highlight_lines, ss, theme)
+        }
         Err(e) => Err(e),
     }
 }
 
 /// The page of what a reader gives, by a highlighter that has read nothing yet.
-fn page_of_lines<R: BufRead + Drop>(
+fn page_of_lines<R: ReadLines + Drop>(
     alloc: Global,
     mut reader: R,
     mut highlighter: HighlightLines<'_>,
@@ -121,13 +128,13 @@ fn page_of_lines<R: BufRead + Drop>(
     ensures page { (definitions : List ADefinition) (syntax : ASyntax)
         → IsSyntaxOfBuilt ss.now syntax definitions
         → Leads ss.now theme.now syntax [] [] highlighter.entry
-        → IfOk result (λ page. (text : List ℕ) × IsTextOf (R.remaining reader) text
+        → IfOk result (λ page. (text : List ℕ) × IsTextOf (R.ahead reader) text
         × IsPageOfBytes ss.now theme.now syntax text (string_bytes page)) }
     ensures refused { (definitions : List ADefinition) (syntax : ASyntax)
         → IsSyntaxOfBuilt ss.now syntax definitions
         → Leads ss.now theme.now syntax [] [] highlighter.entry
-        → IfErr result (λ e. (text : List ℕ) × IsTextOf (R.remaining reader) text
-        × IsStopped ss.now syntax text e) }
+        → IfErr result (λ e. (text : List ℕ) × IsTextOf (R.ahead reader) text
+        × IsStopped (R.failed reader) ss.now syntax text e) }
 {
     let (mut page, color) = start_highlighted_html_snippet(alloc, theme)?;
     let mut spans = SpanWriter::new(alloc, IncludeBackground::IfDifferent(color));
@@ -141,5 +148,6 @@ fn page_of_lines<R: BufRead + Drop>(
         let pieces = highlighter.highlight_line(alloc, line, ss)?;
         spans.append(pieces.as_slice(), &mut page)?;
     }
-    Err(Error::Io(IoError::new(ErrorKind::Other, "too many lines")))
+    // no memory holds so many lines
+    Err(Error::Memory)
 }

@@ -7,7 +7,7 @@ ghost use Rattle.syntect_easy.specs.ClassedPages.{ClosedIsPage, GivenStands};
 ghost use Rattle.syntect_easy.specs.Loaded.{BuildersHold, FindsOwn, FoldersHold, LoadedSetsMeet};
 ghost use Rattle.syntect_easy.specs.PlainLines.{LinesBegin, LinesGoOn, LinesEnd};
 ghost use Rattle.syntect_easy.specs.Promises.{LoadedIsPlain, LoadedStay, NothingIsCleared, AllRunOrderly, PastsStay, StatesGoOn, LoadedGiveScopes, BuiltBeginPlain, OperationsApply};
-ghost use Rattle.syntect_easy.specs.Rows.{RowsBegin, RowsGoOn, RowsEnd, RowsRefuse, RowsStop};
+ghost use Rattle.syntect_easy.specs.Rows.{RowsBegin, RowsGoOn, RowsEnd, RowsRefuse, RowsStop, RowsHaveNoText, ReadingBegins, ReadingGoesOn, ReadingFindsNoText};
 
 use crate::below::base::tree::Tree;
 pub use syntect_writers::marks_seen::{
@@ -112,13 +112,23 @@ pub fn loaded_sets_give_scopes()
 
 /// The lines that a reader gives, one after another, and the pieces that a highlighter answers to
 /// them, are the rows of the reader's text: there are none at first, each line is one more, and in
-/// the end they are all. A line that is refused ends them, and so does a fault of reading.
+/// the end they are all. A line that is refused ends them, and so do a fault of reading and a line
+/// that is not UTF-8.
 pub fn rows_of_readers()
     ensures begin { RowsBegin }
     ensures more { RowsGoOn }
     ensures all { RowsEnd }
     ensures refuse { RowsRefuse }
     ensures stop { RowsStop }
+    ensures no_text { RowsHaveNoText }
+{}
+
+/// The lines that a reader gives, whatever they are read for: there are none at first, each line is
+/// one more, and where a line is not UTF-8, one of the lines of the reader's text isn't.
+pub fn lines_of_readers()
+    ensures begin { ReadingBegins }
+    ensures more { ReadingGoesOn }
+    ensures no_text { ReadingFindsNoText }
 {}
 
 /// The lines that a reader gives, read within limits by `HighlightLines::highlight_line_or_plain`:

@@ -4,13 +4,37 @@ ghost use Rattle.std.specs.Io.{StartsWith};
 ghost use Rattle.std.specs.Io.BufRead.{take_through};
 ghost use Rattle.std.specs.List.{position};
 ghost use Rattle.std.specs.Str.{IsUtf8};
+ghost use Rattle.std.specs.declared.io.Error.{Error as AnIoError};
 ghost use Rattle.syntect_easy.specs.Files.{IsFirstOf};
-ghost use Rattle.syntect_easy.specs.Pages.{IsReadFault};
+ghost use Rattle.syntect_easy.specs.Pages.{IsReadFault, TellsNoText};
 ghost use Rattle.syntect_easy.specs.Rows.{can_go_on, GivesNext};
 
-use std::io::{BufRead, Error as IoError, ErrorKind};
+use crate::below::base::lines::ReadLines;
+use crate::below::base::tree::Tree;
+use std::io;
+use std::io::{BufReader, Error as IoError, ErrorKind};
 use std::str;
 use syntect_parsing::error::Error;
+
+/// The lines of a file of a tree, which was opened at this path.
+#[derive(Drop)]
+pub struct FileLines<'a, T: Tree> {
+    pub tree: &'a T,
+    pub path: &'a str,
+    pub reader: BufReader<T::File>,
+}
+
+impl<'a, T: Tree> ReadLines for FileLines<'a, T> {
+    ghost use Rattle.std.specs.Io.Buffered.{reader_remaining};
+    ghost use Rattle.syntect_easy.specs.syntect_base.Trees.{not_read_on};
+
+    ghost ahead = { λ lines. reader_remaining T.File.Read.remaining lines.reader };
+    ghost failed = { λ lines e. T.told lines.tree.now (not_read_on lines.path.now e) };
+
+    fn read_next(&mut self, line: &mut Vec<u8>) -> io::Result<usize> {
+        self.tree.read_line(self.path, &mut self.reader, line)
+    }
+}
 
 /// Whether another line can follow this one, or the beginning: one without a newline at its end is
 /// the last.
@@ -25,24 +49,24 @@ fn can_go_on(line: &[u8]) -> bool
 
 /// Reads the next line, up to and with its newline, in place of the one before it. False where
 /// nothing is left, as after a line without a newline. `Io` where reading fails.
-pub fn next_line<R: BufRead>(reader: &mut R, line: &mut Vec<u8>) -> Result<bool, Error>
+pub fn next_line<L: ReadLines>(lines: &mut L, line: &mut Vec<u8>) -> Result<bool, Error>
     ensures next { IfOk result
-        (GivesNext (R.remaining reader.old) line.old.items
-        (R.remaining reader.new) line.new.items) }
-    ensures err { IfErr result (IsReadFault) }
+        (GivesNext (L.ahead lines.old) line.old.items (L.ahead lines.new) line.new.items) }
+    ensures err { IfErr result (IsReadFault (L.failed lines.old)) }
+    ensures same { (e : AnIoError) → L.failed lines.new e → L.failed lines.old e }
 {
     if !can_go_on(line.as_slice()) {
         return Ok(false);
     }
     line.clear();
-    let count = reader.read_until(b'\n', line)?;
+    let count = lines.read_next(line)?;
     Ok(count > 0)
 }
 
 /// The text of bytes that are UTF-8. `Io` where they are not.
 pub fn text_of(bytes: &[u8]) -> Result<&str, Error>
     ensures ok { IfOk result (λ text. (text.now ≡ bytes.now) × IsUtf8 bytes.now) }
-    ensures err { IfErr result (IsReadFault) }
+    ensures err { IfErr result (IsReadFault TellsNoText) }
     ensures not_utf8 { IfErr result (λ _. ¬ (IsUtf8 bytes.now)) }
 {
     match str::from_utf8(bytes) {
@@ -76,6 +100,7 @@ fn up_to_newline(bytes: &[u8]) -> &[u8]
 fn whole_characters(bytes: &[u8]) -> &[u8]
     ensures front { StartsWith bytes.now result.now }
     ensures nearly { length bytes.now < length result.now + 4 }
+    ensures whole { IsUtf8 bytes.now → result.now ≡ bytes.now }
 {
     match str::from_utf8(bytes) {
         Ok(_) => bytes,
@@ -91,7 +116,8 @@ fn whole_characters(bytes: &[u8]) -> &[u8]
 pub fn first_line(bytes: &[u8]) -> Result<&str, Error>
     ensures line { IfOk result (λ line. IsUtf8 line.now) }
     ensures asked { IfOk result (λ line. IsFirstOf bytes.now line.now) }
-    ensures err { IfErr result (IsReadFault) }
+    ensures err { IfErr result (IsReadFault TellsNoText) }
+    ensures not_utf8 { IfErr result (λ _. ¬ (IsUtf8 (take_through 10 bytes.now))) }
 {
     let line = up_to_newline(bytes);
     if line.len() < bytes.len() {

@@ -4,8 +4,8 @@ use Rattle.std.specs.Borrow.{Bor}
 use Rattle.std.specs.Cmp.Lexicographic.{pointwise}
 use Rattle.std.specs.Io.BufRead.{take_through}
 use Rattle.std.specs.IoError.{error_kind}
-use Rattle.std.specs.declared.io.ErrorKind.TheVariants.{OutOfMemory}
-use Rattle.syntect_test_trees.specs.syntect_base.Trees.{Answer, has_bytes, not_read, begins, not_begun, opened, not_opened, listed, not_listed, stands, not_told}
+use Rattle.std.specs.declared.io.ErrorKind.TheVariants.{OutOfMemory, PermissionDenied}
+use Rattle.syntect_test_trees.specs.syntect_base.Trees.{Answer, has_bytes, not_read, begins, not_begun, opened, not_opened, not_read_on, listed, not_listed, stands, not_told, written, not_written}
 use Rattle.syntect_test_trees.specs.syntect_base.declared.tree.Kind.{Kind}
 use Rattle.syntect_test_trees.specs.syntect_base.declared.tree.Kind.TheVariants as kind
 use Rattle.syntect_test_trees.specs.declared.fake.FakeTree.{FakeTree}
@@ -39,6 +39,7 @@ IsUnlisted (Some (Folder names)) = ⊥
 IsUnlisted thing = Unit {0}
 
 -- An answer is what stands there; a fault comes where that stands not there, or of lack of memory.
+-- Of a file that was opened the faults of reading aren't told. Nothing is written.
 abbrev pub Tells : FakeTree → Answer → Type 0
 Tells tree (has_bytes path bytes) =
     (b : Bor (List ℕ)) × (thing_at path tree.entries.now ≡ Some (File b)) × (bytes ≡ b.now)
@@ -52,6 +53,7 @@ Tells tree (not_begun path e) =
 Tells tree (opened path left) =
     (b : Bor (List ℕ)) × (thing_at path tree.entries.now ≡ Some (File b)) × (left ≡ Some b.now)
 Tells tree (not_opened path e) = IsUnread (thing_at path tree.entries.now)
+Tells tree (not_read_on path e) = Unit {0}
 Tells tree (listed path names) =
     (b : Bor (List ℕ)) × (thing_at path tree.entries.now ≡ Some (Folder b)) × (names ≡ b.now)
 Tells tree (not_listed path e) =
@@ -59,3 +61,5 @@ Tells tree (not_listed path e) =
 Tells tree (stands path kind) =
     (thing : Thing) × (thing_at path tree.entries.now ≡ Some thing) × (kind ≡ kind_of thing)
 Tells tree (not_told path e) = thing_at path tree.entries.now ≡ None
+Tells tree (written path bytes) = ⊥
+Tells tree (not_written path e) = error_kind e ≡ PermissionDenied

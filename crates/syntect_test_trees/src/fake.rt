@@ -8,7 +8,7 @@ ghost use Rattle.syntect_test_trees.specs.Fakes.{Tells, kind_of, thing_at};
 use crate::below::base::tree::{Kind, Tree};
 use std::alloc::Global;
 use std::io;
-use std::io::{ErrorKind, Read};
+use std::io::{BufRead, BufReader, ErrorKind, Read};
 
 /// What stands at a path.
 #[derive(Clone, Copy)]
@@ -139,6 +139,22 @@ impl<'a> Tree for FakeTree<'a> {
         }
     }
 
+    fn read_line(
+        &self,
+        _path: &str,
+        reader: &mut BufReader<FakeFile>,
+        line: &mut Vec<u8>,
+    ) -> io::Result<usize> {
+        reader.read_until(b'\n', line)
+    }
+
+    fn fill(&self, _path: &str, reader: &mut BufReader<FakeFile>) -> io::Result<()> {
+        match reader.fill_buf() {
+            Ok(_) => Ok(()),
+            Err(e) => Err(e),
+        }
+    }
+
     fn list_folder(&self, alloc: Global, path: &str) -> io::Result<Vec<u8>> {
         match thing_at(self.entries, path) {
             Some(Thing::Folder(names)) => copy_of(alloc, names),
@@ -151,5 +167,9 @@ impl<'a> Tree for FakeTree<'a> {
             Some(thing) => Ok(kind_of(thing)),
             None => Err(io::Error::from(ErrorKind::NotFound)),
         }
+    }
+
+    fn write_file(&self, _path: &str, _bytes: &[u8]) -> io::Result<()> {
+        Err(io::Error::from(ErrorKind::PermissionDenied))
     }
 }

@@ -10,8 +10,9 @@ returns-clause-page g c = λ definitions b.
 
 pub returns-clause-refused : goal.returns-clause-refused
 returns-clause-refused g c = λ definitions b.
-    let had = g.R.Read.remaining c.args.reader in
-    err_on c.page_of_lines.result (HasStopped c.args.ss.now c.args.syntax.now had)
-    (λ e. (text : List ℕ) × IsTextOf had text × HasNoPageOfBytes c.args.ss.now c.args.syntax.now text e)
-    (stopped_page c.args.ss.now c.args.syntax.now had)
+    let had = g.R.ReadLines.ahead c.args.reader in
+    let Failed = g.R.ReadLines.failed c.args.reader in
+    err_on c.page_of_lines.result (HasStopped Failed c.args.ss.now c.args.syntax.now had)
+    (λ e. (text : List ℕ) × IsTextOf had text × HasNoPageOfBytes Failed c.args.ss.now c.args.syntax.now text e)
+    (stopped_page Failed c.args.ss.now c.args.syntax.now had)
     (c.page_of_lines.ensures.refused definitions c.args.syntax.now b (c.in_ok-highlighter.ensures.leads c.args.ss.now))

@@ -1,4 +1,4 @@
-use Rattle.syntect_easy.proofs.ReaderLaws.{stopped_at_line, stopped_by_fault}
+use Rattle.syntect_easy.proofs.ReaderLaws.{no_text_after, stopped_after, stopped_at_line}
 use Rattle.syntect_easy.proofs.RowLaws.{rows_begin, rows_go_on, rows_end}
 use Rattle.syntect_easy.proofs.laws.rows_of_readers.Goals as goal
 
@@ -15,4 +15,7 @@ pub returns-clause-refuse : goal.returns-clause-refuse
 returns-clause-refuse c = stopped_at_line
 
 pub returns-clause-stop : goal.returns-clause-stop
-returns-clause-stop c = stopped_by_fault
+returns-clause-stop c = stopped_after
+
+pub returns-clause-no_text : goal.returns-clause-no_text
+returns-clause-no_text c = no_text_after

@@ -1,4 +1,4 @@
-use Rattle.std.proofs.Common.{◌≢◌, ℕ, List, [], reverse, refl, subst}
+use Rattle.std.proofs.Common.{◌≢◌, ℕ, List, reverse, refl, subst}
 use Rattle.std.specs.Path.{path_bytes}
 use Rattle.syntect_base.specs.Ahead.{Ahead}
 use Rattle.syntect_base.specs.Walks.{Walks, Unlisted}

@@ -4,7 +4,7 @@ use Rattle.std.specs.Path.{path_bytes}
 use Rattle.std.specs.Prelude.{Option}
 use Rattle.std.specs.declared.io.Error.{Error as IoError}
 use Rattle.syntect_easy.specs.syntect_base.Trees.{opened, not_opened}
-use Rattle.syntect_easy.specs.Files.{IsFileFault, IsToldWithin, file_unopened, file_unread}
+use Rattle.syntect_easy.specs.Files.{IsFileFault, IsFrontFault, IsToldWithin, file_unopened, file_unread}
 use Rattle.syntect_easy.proofs.FileLaws.{told_is_for, one_fault, faults_within, no_start_within}
 use Rattle.syntect_easy.proofs.easy.HighlightFile.new_or_plain.Goals as goal
 
@@ -40,5 +40,9 @@ pub returns-in-Err-syntax_within-clause-refused : goal.returns-in-Err-syntax_wit
 returns-in-Err-syntax_within-clause-refused g c =
     let Told = g.T.Tree.told c.args.tree.now in
     let path = path_bytes c.args.path in
-    let any : (e : IoError) → IsFileFault Told path e = λ e. file_unread {left = g.F.Read.remaining c.in-Ok.file} (subst (λ (p : List ℕ). Told (opened p (g.F.Read.remaining c.in-Ok.file))) c.as_str.ensures c.in-Ok.ensures.ok) in
-    faults_within (λ _. Unit {0}) (IsFileFault Told path) any c.args.limits.now c.args.ss.now path c.in-Err-syntax_within.e c.in-Err-syntax_within.ensures.refused
+    let left = g.F.Read.remaining c.in-Ok.file in
+    let told = subst (λ (p : List ℕ). Told (opened p left)) c.as_str.ensures c.in-Ok.ensures.ok in
+    let same : reader_remaining g.F.Read.remaining c.in-Ok-new.reader ≡ left = search rules in
+    let ahead = reader_remaining g.F.Read.remaining c.in-Ok-new.reader in
+    let any : (e : IoError) → IsFrontFault Told path ahead e → IsFileFault Told path e = λ e f. file_unread {left = left} told (subst (λ (o : Option (List ℕ)). IsFrontFault Told path o e) same f) in
+    faults_within (IsFrontFault Told path ahead) (IsFileFault Told path) any c.args.limits.now c.args.ss.now path c.in-Err-syntax_within.e c.in-Err-syntax_within.ensures.refused

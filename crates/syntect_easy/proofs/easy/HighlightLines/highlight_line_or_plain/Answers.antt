@@ -4,7 +4,7 @@ use Rattle.syntect_easy.specs.syntect_theme.declared.theme.Theme.{Theme}
 use Rattle.syntect_easy.specs.syntect_grammar.declared.error.Error.{Error}
 use Rattle.syntect_easy.specs.Leads.{Continues, reader_of}
 use Rattle.syntect_easy.specs.PlainLines.{ArePlain}
-use Rattle.syntect_easy.specs.Within.{ReachesLimit, TellsWhere, refusal_of}
+use Rattle.syntect_easy.specs.Within.{ReachesLimit, RefusesNoReadFault, TellsWhere, refusal_of}
 use Rattle.syntect_easy.specs.declared.within.HighlightWithinError.{HighlightWithinError}
 use Rattle.syntect_easy.proofs.LeadLaws.{pasts_stay}
 use Rattle.syntect_easy.proofs.PlainLaws.{reached_from}
@@ -25,3 +25,7 @@ returns-in_ok-plain-in-Err-LimitReached-clause-answered c = λ past h.
           (subst (λ (w : HighlightWithinError). ReachesLimit c.args.limits.now (turns_made (reader_of new) - turns_made (reader_of c.args.self.now)) (steps_made (reader_of new) - steps_made (reader_of c.args.self.now)) w) c.in-Err-LimitReached.field-0-is c.in-Err-LimitReached.ensures.reached)
           (subst (λ (w : HighlightWithinError). TellsWhere c.args.syntax_set.now c.args.line.now (standing (reader_of c.args.self.now)) w) c.in-Err-LimitReached.field-0-is c.in-Err-LimitReached.ensures.there),
     )
+
+pub returns-in-Err-Refused-clause-no_fault : goal.returns-in-Err-Refused-clause-no_fault
+returns-in-Err-Refused-clause-no_fault c =
+    subst RefusesNoReadFault c.in-Err-Refused.field-0-is c.in-Err-Refused.ensures.no_fault

@@ -7,7 +7,7 @@ use Rattle.syntect_parsing.specs.Bound.{TakesNoMore}
 use Rattle.syntect_parsing.specs.States.{standing, turns_made}
 use Rattle.syntect_easy.specs.Within.{from_reading, refusal_of}
 use Rattle.syntect_easy.specs.Leads.{reader_of}
-use Rattle.syntect_easy.proofs.WithinLaws.{exact_stopped, lead_stopped, limit_there}
+use Rattle.syntect_easy.proofs.WithinLaws.{exact_stopped, lead_stopped, limit_there, reading_no_fault, scope_no_fault}
 use Rattle.syntect_easy.proofs.LeadLaws.{on_err-any, lead_unshown, lead_accepted, continues}
 use Rattle.syntect_easy.proofs.ExactLaws.{exact_accepted, exact_unshown}
 use Rattle.syntect_easy.proofs.easy.HighlightLines.highlight_line_within.Goals as goal
@@ -72,3 +72,13 @@ pub returns-in_err-parse_state-clause-there : goal.returns-in_err-parse_state-cl
 returns-in_err-parse_state-clause-there c =
     let p = err_from_is_err_and c.from_residual.result c.from_residual.ensures.1 in
     rw (p.1, p.2) (limit_there c.args.syntax_set.now c.args.line.now (standing (reader_of c.args.self.now)) c.in_err-parse_state.field-0.0 c.in_err-parse_state.ensures.refused)
+
+pub returns-in_err-parse_state-clause-no_fault : goal.returns-in_err-parse_state-clause-no_fault
+returns-in_err-parse_state-clause-no_fault c =
+    let p = err_from_is_err_and c.from_residual.result c.from_residual.ensures.1 in
+    rw (p.1, p.2) (reading_no_fault c.in_err-parse_state.field-0.0)
+
+pub returns-in_err-pieces-clause-no_fault : goal.returns-in_err-pieces-clause-no_fault
+returns-in_err-pieces-clause-no_fault c =
+    let p = err_from_is_err_and c.from_residual-in_err-pieces.result c.from_residual-in_err-pieces.ensures.1 in
+    rw (p.1, p.2) (scope_no_fault c.in_err-pieces.field-0.0)
