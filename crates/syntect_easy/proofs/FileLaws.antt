@@ -1,13 +1,12 @@
 -- Syntaxes of files.
-use Rattle.std.proofs.Common.{◌≡◌, ◌≢◌, ℕ, suc, Bool, List, [], ◌∷◌, ◌++◌, length, refl, sym, ap, ◌∙◌, inl, inr, subst, Result, Ok, Err}
+use Rattle.std.proofs.Common.{◌≡◌, ◌≢◌, ℕ, suc, Bool, List, [], ◌∷◌, ◌++◌, length, refl, sym, ap, ◌∙◌, inl, inr, subst}
 use Rattle.std.specs.Io.{StartsWith}
 use Rattle.std.specs.Io.BufRead.{take_through}
-use Rattle.std.specs.Prelude.{Option, Some, None, IfSome, IfOk, IfErr, IsUtf8, slice_get, find, reverse, ◌⊎◌}
+use Rattle.std.specs.Prelude.{Option, Some, None, IfSome, IsUtf8, slice_get, find, reverse, ◌⊎◌}
 use Rattle.std.specs.Option.{option_or}
 use Rattle.std.proofs.lemmas.Bool.{cases_Bool}
 use Rattle.std.proofs.lemmas.List.{reverse-append}
 use Rattle.std.proofs.lemmas.Str.{IsUtf8-nil}
-use Rattle.syntect_easy.specs.syntect_theme.declared.theme.Theme.{Theme}
 use Rattle.syntect_easy.specs.syntect_grammar.Finding.{found_for_file, found_plain_text, found_by_file_name, found_by_first_line}
 use Rattle.syntect_easy.specs.syntect_grammar.Link.{syntaxes_in}
 use Rattle.syntect_easy.specs.syntect_grammar_contexts.declared.syntax_reference.SyntaxReference.{SyntaxReference}
@@ -27,12 +26,12 @@ use Rattle.std.specs.Io.KnownBytes.{Keeps}
 use Rattle.std.specs.declared.io.Error.{Error as IoError}
 use Rattle.std.specs.declared.io.ErrorKind.{ErrorKind}
 use Rattle.std.specs.declared.io.ErrorKind.TheVariants.{OutOfMemory}
-use Rattle.syntect_easy.specs.syntect_base.Trees.{Answer, opened, not_read_on}
+use Rattle.syntect_easy.specs.syntect_base.Trees.{Answer, opened}
 use Rattle.syntect_easy.specs.syntect_grammar.Passing.{from_kind, from_io}
 use Rattle.syntect_easy.specs.Rows.{IsTextOf}
-use Rattle.syntect_easy.specs.Files.{IsTextOfFile, IsSyntaxFor, IsSyntaxWithin, IsPlainInstead, IsToldSyntax, IsToldWithin, IsFirstOf, IsAskedOf, IsLineFault, HasNoLines, HasNoLinesWithin, LacksInstead, IsPageOfFile, HasNoPageOfFile}
+use Rattle.syntect_easy.specs.Files.{IsTextOfFile, IsSyntaxFor, IsSyntaxWithin, IsPlainInstead, IsToldSyntax, IsToldWithin, IsFirstOf, IsAskedOf, IsFrontFault, IsLineFault, HasNoLines, HasNoLinesWithin}
 use Rattle.syntect_easy.specs.Leads.{LacksStart}
-use Rattle.syntect_easy.specs.Pages.{IsPageOfBytes, IsStopped, IsReadFault}
+use Rattle.syntect_easy.specs.Pages.{IsReadFault, TellsNoText}
 
 -- ---- what is found is among what is looked through ----
 
@@ -192,6 +191,20 @@ faults_of_kind Faults set path kind e h = h
 pub one_fault : (Faults : IoError → Type 0) (set : SyntaxSet) (path : List ℕ) (e : IoError) (r : Error) → r ≡ from_io e → Faults e → HasNoLines Faults set path r
 one_fault Faults set path e r q h = subst (HasNoLines Faults set path) (sym q) (faults_of_kind Faults set path (error_kind e) e h)
 
+-- the front of a file's first line is not UTF-8
+pub front_no_text : (Told : Answer → Type 0) (limits : Limits) (set : SyntaxSet) (path : List ℕ) (left : Option (List ℕ)) (given : List ℕ) → IfSome left (λ xs. StartsWith xs given) → (e : Error) → ¬ (IsUtf8 (take_through 10 given)) → IsReadFault TellsNoText e
+    → HasNoLinesWithin (IsFrontFault Told path left) limits set path e
+front_no_text Told limits set path left given f (error.ParsingError e) u h = absurd h
+front_no_text Told limits set path left given f error.Memory u h = inl tt
+front_no_text Told limits set path left given f (error.ScopeError e) u h = absurd h
+front_no_text Told limits set path left given f (error.Fmt e) u h = absurd h
+front_no_text Told limits set path left given f (error.Io e) u h = inl (inr (h, given, f, u))
+front_no_text Told limits set path left given f (error.LoadingError e) u h = absurd h
+front_no_text Told limits set path left given f error.NoSyntax u h = absurd h
+front_no_text Told limits set path left given f (error.ParseSyntax e) u h = absurd h
+front_no_text Told limits set path left given f (error.ParseScope e) u h = absurd h
+front_no_text Told limits set path left given f (error.Pattern e) u h = absurd h
+
 -- ---- first lines within limits ----
 
 -- where the limit was reached
@@ -265,15 +278,5 @@ line_fault_kept Failed left seen k e (inl f) = inl f
 line_fault_kept Failed left seen k e (inr h) = inr (h.0, h.1, text_kept left seen h.1 k h.2, h.3)
 
 module _ (Told : Answer → Type 0) (set : SyntaxSet) (path : List ℕ) (syntax : SyntaxReference) (left seen : Option (List ℕ)) (told : Told (opened path left)) (kept : Keeps left seen) (by : IsToldSyntax set path left syntax) where
-  text_of_file : (text : List ℕ) → IsTextOf seen text → IsTextOfFile Told set path syntax text
+  pub text_of_file : (text : List ℕ) → IsTextOf seen text → IsTextOfFile Told set path syntax text
   text_of_file text t = record { left = left; told = told; told_by = by; whole = text_kept left seen text kept t }
-
-  pub page_of_file : {A : Type 0} (view : A → List ℕ) (theme : Theme) (result : Result A Error)
-      → IfOk result (λ page. (text : List ℕ) × IsTextOf seen text × IsPageOfBytes set theme syntax text (view page)) → IfOk result (λ page. IsPageOfFile Told set theme path (view page))
-  page_of_file view theme (Ok page) h = (syntax, h.0, text_of_file h.0 h.1, h.2)
-  page_of_file view theme (Err e) h = tt
-
-  pub no_page_of_file : {A : Type 0} (result : Result A Error)
-      → IfErr result (λ e. (text : List ℕ) × IsTextOf seen text × IsStopped (λ e. Told (not_read_on path e)) set syntax text e) → IfErr result (HasNoPageOfFile Told set path)
-  no_page_of_file (Ok page) h = tt
-  no_page_of_file (Err e) h = inr (syntax, h.0, text_of_file h.0 h.1, h.2)

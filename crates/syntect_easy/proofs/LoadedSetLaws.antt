@@ -12,16 +12,15 @@ use Rattle.syntect_grammar_limits.specs.declared.lenient.PassedOver.{PassedOver}
 use Rattle.syntect_easy.specs.syntect_base.Trees.{Answer}
 use Rattle.syntect_easy.specs.syntect_base.declared.limits.Limits.{Limits}
 use Rattle.syntect_easy.specs.syntect_grammar.Finding.{found_by_name, found_by_extension, found_by_token, found_by_file_name, found_by_first_line, last_fitting, has_extension, fits_line, without_mark}
-use Rattle.syntect_easy.specs.syntect_grammar.Folders.{AddsSyntaxes, AddsFolder, AddsMetadata, entry_added, passed_over, no_more, other, grammar, metadata}
+use Rattle.syntect_easy.specs.syntect_grammar.Folders.{AddsSyntaxes, AddsMetadata, entry_added, passed_over, no_more, other, grammar, metadata}
 use Rattle.syntect_easy.specs.syntect_grammar.Link.{definitions_in, syntaxes_in, linked}
-use Rattle.syntect_easy.specs.syntect_grammar.PlainText.{AddsPlainText}
 use Rattle.syntect_easy.specs.syntect_grammar_loader.Loading.{loaded}
 use Rattle.syntect_easy.specs.syntect_grammar_loader.declared.definition.SyntaxDefinition.{SyntaxDefinition}
 use Rattle.syntect_easy.specs.syntect_grammar_contexts.declared.syntax_reference.SyntaxReference.{SyntaxReference}
 use Rattle.syntect_easy.specs.syntect_grammar.declared.syntax_set.SyntaxSet.{SyntaxSet}
 use Rattle.syntect_easy.specs.syntect_grammar.declared.syntax_set.SyntaxSetBuilder.{SyntaxSetBuilder}
 use Rattle.syntect_easy.specs.Built.{IsLoaded, IsPlain, IsSyntaxOfBuilt}
-use Rattle.syntect_easy.specs.Loaded.{HoldsLoaded, IsOfLoaded, IsOneOf, BuildersHold, FoldersHold, FindsOwn}
+use Rattle.syntect_easy.specs.Loaded.{HoldsLoaded, IsOneOf, BuildersHold, FoldersHold, FindsOwn}
 use Rattle.syntect_easy.proofs.FileLaws.{place_found, either_found}
 
 -- ---- builders ----

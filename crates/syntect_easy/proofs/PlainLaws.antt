@@ -1,8 +1,7 @@
 -- Lines that are read within limits, and shown plain where they reach one.
-use Rattle.std.proofs.Common.{◌≡◌, ℕ, ◌+◌, ◌-◌, ◌<◌, true, List, [], ◌∷◌, ◌++◌, length, refl, sym, ap, subst, ◌∙◌, append_assoc, append-nil, IsUtf8, Bor, arith}
-use Rattle.std.specs.Prelude.{Option, Some, None}
+use Rattle.std.proofs.Common.{◌≡◌, ℕ, ◌-◌, ◌<◌, true, List, [], ◌∷◌, ◌++◌, length, refl, sym, ap, subst, ◌∙◌, append_assoc, append-nil, Bor, arith}
+use Rattle.std.specs.Prelude.{Some, None}
 use Rattle.std.specs.Io.{StopsAt}
-use Rattle.std.specs.Global.{Vec}
 use Rattle.std.proofs.lemmas.Str.{IsUtf8-append, IsUtf8-nil}
 use Rattle.syntect_easy.specs.syntect_base.declared.limits.Limits.{Limits}
 use Rattle.syntect_easy.specs.syntect_theme.declared.style.Style.{Style}
@@ -20,7 +19,7 @@ use Rattle.syntect_writers.specs.Lines.{lines_of}
 use Rattle.syntect_easy.specs.Leads.{reader_of}
 use Rattle.syntect_easy.specs.Pages.{Row, AreShown}
 use Rattle.syntect_easy.specs.Rows.{CanFollow, can_go_on}
-use Rattle.syntect_easy.specs.PlainLines.{ArePlainAfter, AreLinesSoFar, IsPlainAfter, LinesBegin, LinesEnd, LinesGoOn, ReachesFrom, Shown, read, plain, all_lines, line_in, rows_in}
+use Rattle.syntect_easy.specs.PlainLines.{ArePlainAfter, IsPlainAfter, LinesBegin, LinesEnd, LinesGoOn, ReachesFrom, Shown, read, plain, all_lines, line_in, rows_in}
 use Rattle.syntect_easy.specs.Within.{ReachesLimit}
 use Rattle.syntect_easy.specs.declared.within.HighlightWithinError.TheVariants.{LimitReached}
 use Rattle.syntect_easy.proofs.PageLaws.{map_last, shown_none, shown_last}

@@ -1,5 +1,5 @@
 -- A page while it is written from a reader.
-use Rattle.std.proofs.Common.{◌≡◌, ℕ, Bool, true, false, List, [], ◌∷◌, ◌++◌, ap, ◌∙◌, append_assoc, IsUtf8, Bor, Ok, Err, Result, inl, inr}
+use Rattle.std.proofs.Common.{◌≡◌, ℕ, Bool, true, false, List, [], ◌∷◌, ◌++◌, ap, ◌∙◌, append_assoc, refl, IsUtf8, Bor, Ok, Err, Result, inl, inr}
 use Rattle.std.specs.Prelude.{Option, IfErr}
 use Rattle.std.specs.Global.{Vec}
 use Rattle.std.specs.declared.io.Error.{Error as IoError}
@@ -15,9 +15,10 @@ use Rattle.syntect_writers.specs.declared.html.IncludeBackground.TheVariants.{If
 use Rattle.syntect_parsing.specs.States.{standing}
 use Rattle.syntect_easy.specs.Leads.{reader_of, Continues, LacksStart, OnlyParsing}
 use Rattle.syntect_easy.specs.syntect_grammar_loader.declared.definition.SyntaxDefinition.{SyntaxDefinition}
-use Rattle.syntect_easy.specs.Pages.{Row, lines_in, past_of, body_text, IsPage, IsPageOfBytes, IsRefusedAtALine, IsRefusedAtALineOfBytes, HasNoPageOfBytes, IsReadUpTo, IsReadFault, TellsNoText}
+use Rattle.syntect_easy.specs.Pages.{Row, lines_in, past_of, body_text, IsPage, IsPageOfBytes, IsRefusedAtALine, IsRefusedAtALineOfBytes, HasNoPageOfBytes, IsReadUpTo, IsReadFault, IsStopped, TellsNoText}
 use Rattle.syntect_easy.specs.Rows.{IsTextOf, GivesNext, AreRowsSoFar, HasNoText, HasStopped, RowsHaveNoText, RowsRefuse, RowsStop}
 use Rattle.syntect_easy.specs.Files.{FaultsAre, IsLineFault}
+use Rattle.syntect_easy.specs.LineErrors.{error_of, lines_error}
 use Rattle.syntect_easy.specs.Within.{IsNoReadFault}
 use Rattle.syntect_easy.specs.declared.easy.HighlightLines.{HighlightLines}
 use Rattle.syntect_easy.proofs.PageLaws.{written_last}
@@ -125,7 +126,7 @@ no_text_after set theme syntax had left after last bytes rows h s g u =
       run = s.leads.run;
       valid = s.lines_valid;
     } in
-    ((s.done ++ bytes) ++ t.0, t.2, (so_far, u))
+    ((s.done ++ bytes) ++ t.0, t.2, so_far, u)
 
 pub err_on : {A : Type 0} (r : Result A Error) (P Q : Error → Type 0) → ((e : Error) → P e → Q e) → IfErr r P → IfErr r Q
 err_on (Ok x) P Q f h = tt
@@ -198,9 +199,37 @@ module _ (Failed : IoError → Type 0) where
 
     -- and so does a line that is not UTF-8
     pub any_no_text : {A : Type 0} (r : Result A Error) (theme : Theme) (left after : Option (List ℕ)) (last bytes : List ℕ) (rows : List Row) (h : HighlightLines)
-        → AreRowsSoFar set theme syntax had left last rows h → GivesNext left last after bytes true → IfErr r (λ _. ¬ (IsUtf8 bytes)) → IfErr r (IsReadFault TellsNoText) → IfErr r (HasStopped Failed set syntax had)
+        → AreRowsSoFar set theme syntax had left last rows h → GivesNext left last after bytes true → ¬ (IsUtf8 bytes) → IfErr r (IsReadFault TellsNoText) → IfErr r (HasStopped Failed set syntax had)
     any_no_text (Ok x) theme left after last bytes rows h s g u f = tt
     any_no_text (Err e) theme left after last bytes rows h s g u f = stopped_by_no_text theme left after last bytes rows h e s g u f
+
+-- ---- refusals of lines ----
+
+module _ (Failed : IoError → Type 0) (set : SyntaxSet) (syntax : SyntaxReference) (text : List ℕ) where
+  -- a refusal of a page is told as one of lines
+  pub stopped_so : (e : Error) → IsStopped Failed set syntax text e → IsStopped Failed set syntax text (error_of (lines_error e))
+  stopped_so (error.ParsingError e) h = h
+  stopped_so error.Memory h = h
+  stopped_so (error.ScopeError e) h = absurd h
+  stopped_so (error.Fmt e) h = absurd h
+  stopped_so (error.Io e) h = h
+  stopped_so (error.LoadingError e) h = absurd h
+  stopped_so error.NoSyntax h = absurd h
+  stopped_so (error.ParseSyntax e) h = absurd h
+  stopped_so (error.ParseScope e) h = absurd h
+  stopped_so (error.Pattern e) h = absurd h
+
+pub faults_so : (Faults : IoError → Type 0) (e : Error) → FaultsAre Faults e → FaultsAre Faults (error_of (lines_error e))
+faults_so Faults (error.ParsingError e) h = tt
+faults_so Faults error.Memory h = tt
+faults_so Faults (error.ScopeError e) h = tt
+faults_so Faults (error.Fmt e) h = tt
+faults_so Faults (error.Io e) h = h
+faults_so Faults (error.LoadingError e) h = tt
+faults_so Faults error.NoSyntax h = tt
+faults_so Faults (error.ParseSyntax e) h = tt
+faults_so Faults (error.ParseScope e) h = tt
+faults_so Faults (error.Pattern e) h = tt
 
 -- ---- lines alone ----
 
@@ -246,7 +275,7 @@ module _ (Failed : IoError → Type 0) (had : Option (List ℕ)) where
   line_faults r There f h = err_on r (IsReadFault There) (FaultsAre (IsLineFault Failed had)) (is_line_fault There f) h
 
   -- and so is that of a line which is not UTF-8
-  pub no_text_faults : {A : Type 0} (r : Result A Error) (bytes : List ℕ) → (¬ (IsUtf8 bytes) → (text : List ℕ) × IsTextOf had text × HasNoText text) → IfErr r (λ _. ¬ (IsUtf8 bytes)) → IfErr r (IsReadFault TellsNoText) → IfErr r (FaultsAre (IsLineFault Failed had))
+  pub no_text_faults : {A : Type 0} (r : Result A Error) (bytes : List ℕ) → (¬ (IsUtf8 bytes) → (text : List ℕ) × IsTextOf had text × HasNoText text) → ¬ (IsUtf8 bytes) → IfErr r (IsReadFault TellsNoText) → IfErr r (FaultsAre (IsLineFault Failed had))
   no_text_faults (Ok x) bytes t u h = tt
   no_text_faults (Err e) bytes t u h = let n = t u in is_no_text n.0 n.1 n.2 e h
 

@@ -1,9 +1,6 @@
 -- Lines that are highlighted within limits.
-use Rattle.std.proofs.Common.{◌≡◌, ℕ, List, Result, Ok, Err, Bor, refl}
-use Rattle.std.specs.Prelude.{OnErr, IfErr}
-use Rattle.std.specs.Global.{Vec}
+use Rattle.std.proofs.Common.{ℕ, List, Err, Bor}
 use Rattle.syntect_easy.specs.syntect_base.declared.limits.Limits.{Limits}
-use Rattle.syntect_easy.specs.syntect_theme.declared.style.Style.{Style}
 use Rattle.syntect_easy.specs.syntect_theme.declared.theme.Theme.{Theme}
 use Rattle.syntect_easy.specs.syntect_reading_choice.Engine.{dialect}
 use Rattle.syntect_parsing.specs.Laws.{AnswersMore}
@@ -29,7 +26,6 @@ use Rattle.syntect_easy.proofs.ExactLaws.{Premises, exact_refused}
 use Rattle.syntect_easy.proofs.LeadLaws.{LeadsOn, lead_refused}
 use Rattle.syntect_easy.specs.declared.classed.ClassedHTMLGenerator.{ClassedHTMLGenerator}
 use Rattle.syntect_easy.specs.declared.easy.HighlightLines.{HighlightLines}
-use Rattle.syntect_easy.specs.declared.within.HighlightWithinError.{HighlightWithinError}
 
 -- a line that is not read leads on as one that is refused, and as one without memory where it
 -- reached a limit

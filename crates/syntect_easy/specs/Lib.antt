@@ -3,6 +3,7 @@ pub mod Classed
 pub mod ClassedPages
 pub mod Files
 pub mod Leads
+pub mod LineErrors
 pub mod Loaded
 pub mod Pages
 pub mod PlainLines

@@ -7,6 +7,7 @@ ghost use Rattle.std.specs.Path.{path_bytes};
 ghost use Rattle.syntect_easy.specs.Built.{IsBuilt, IsSyntaxOfBuilt};
 ghost use Rattle.syntect_easy.specs.Files.{IsPageOfFile, HasNoPageOfFile};
 ghost use Rattle.syntect_easy.specs.Leads.{Leads};
+ghost use Rattle.syntect_easy.specs.LineErrors.{error_of};
 ghost use Rattle.syntect_easy.specs.Pages.{IsPage, IsWhyNoPage, IsPageOfBytes, HasNoPageOfBytes, IsStopped};
 ghost use Rattle.syntect_easy.specs.Rows.{IsTextOf};
 ghost use Rattle.syntect_easy.specs.syntect_grammar_loader.declared.definition.SyntaxDefinition.{SyntaxDefinition as ADefinition};
@@ -17,7 +18,7 @@ use crate::below::base::tree::Tree;
 use crate::below::theme::theme::Theme;
 pub use crate::classed::{ClassStyle, ClassedHTMLGenerator, line_tokens_to_classed_spans};
 use crate::easy::{HighlightFile, HighlightLines};
-use crate::reading::{FileLines, next_line, text_of};
+use crate::reading::{FileLines, LinesError, next_line, text_of};
 use std::alloc::Global;
 use std::path::Path;
 use syntect_parsing::error::Error;
@@ -111,9 +112,37 @@ pub fn highlighted_html_for_file<T: Tree>(
                 path: path.as_str(),
                 reader: file.reader,
             };
-            page_of_lines(alloc, lines, file.highlight_lines, ss, theme)
+            match page_of_reader(alloc, lines, file.highlight_lines, ss, theme) {
+                Ok(page) => Ok(page),
+                Err(e) => Err(Error::from(e)),
+            }
         }
         Err(e) => Err(e),
+    }
+}
+
+/// The page of what a reader gives, as by `page_of_lines`.
+fn page_of_reader<R: ReadLines + Drop>(
+    alloc: Global,
+    reader: R,
+    highlighter: HighlightLines<'_>,
+    ss: &SyntaxSet,
+    theme: &Theme,
+) -> Result<String, LinesError>
+    ensures page { (definitions : List ADefinition) (syntax : ASyntax)
+        → IsSyntaxOfBuilt ss.now syntax definitions
+        → Leads ss.now theme.now syntax [] [] highlighter.entry
+        → IfOk result (λ page. (text : List ℕ) × IsTextOf (R.ahead reader) text
+        × IsPageOfBytes ss.now theme.now syntax text (string_bytes page)) }
+    ensures refused { (definitions : List ADefinition) (syntax : ASyntax)
+        → IsSyntaxOfBuilt ss.now syntax definitions
+        → Leads ss.now theme.now syntax [] [] highlighter.entry
+        → IfErr result (λ e. (text : List ℕ) × IsTextOf (R.ahead reader) text
+        × IsStopped (R.failed reader) ss.now syntax text (error_of e)) }
+{
+    match page_of_lines(alloc, reader, highlighter, ss, theme) {
+        Ok(page) => Ok(page),
+        Err(e) => Err(LinesError::from(e)),
     }
 }
 

@@ -11,10 +11,59 @@ ghost use Rattle.syntect_easy.specs.Rows.{can_go_on, GivesNext};
 
 use crate::below::base::lines::ReadLines;
 use crate::below::base::tree::Tree;
-use std::io;
+use crate::below::scope::stack::ScopeError;
 use std::io::{BufReader, Error as IoError, ErrorKind};
-use std::str;
-use syntect_parsing::error::Error;
+use std::{fmt, io, str};
+use syntect_parsing::error::{Error, ParsingError};
+
+/// Why the lines of a reader are not shown: what `Error` has of it, but not the refusals of loading.
+#[derive(Drop)]
+pub enum LinesError {
+    /// Reading failed, or a line is not UTF-8.
+    Io(io::Error),
+    /// A line was not read.
+    ParsingError(ParsingError),
+    /// An operation on a stack of scopes was refused.
+    ScopeError(ScopeError),
+    /// A text could not be formatted.
+    Fmt(fmt::Error),
+    /// There was no memory.
+    Memory,
+}
+
+impl From<Error> for LinesError {
+    ghost use Rattle.std.specs.Prelude.{◌≡◌};
+    ghost use Rattle.syntect_easy.specs.LineErrors.{lines_error};
+
+    ghost from_gives = { λ e r. r ≡ lines_error e };
+
+    fn from(e: Error) -> LinesError {
+        match e {
+            Error::Io(e) => LinesError::Io(e),
+            Error::ParsingError(e) => LinesError::ParsingError(e),
+            Error::ScopeError(e) => LinesError::ScopeError(e),
+            Error::Fmt(e) => LinesError::Fmt(e),
+            _ => LinesError::Memory,
+        }
+    }
+}
+
+impl From<LinesError> for Error {
+    ghost use Rattle.std.specs.Prelude.{◌≡◌};
+    ghost use Rattle.syntect_easy.specs.LineErrors.{error_of};
+
+    ghost from_gives = { λ e r. r ≡ error_of e };
+
+    fn from(e: LinesError) -> Error {
+        match e {
+            LinesError::Io(e) => Error::Io(e),
+            LinesError::ParsingError(e) => Error::ParsingError(e),
+            LinesError::ScopeError(e) => Error::ScopeError(e),
+            LinesError::Fmt(e) => Error::Fmt(e),
+            LinesError::Memory => Error::Memory,
+        }
+    }
+}
 
 /// The lines of a file of a tree, which was opened at this path.
 #[derive(Drop)]

@@ -1,5 +1,4 @@
-use Rattle.std.proofs.Common.{◌++◌, ◌-◌, List, [], ℕ, refl, sym, ap, ◌∙◌, append-nil, arith, string_bytes, Bor, rules, IsUtf8}
-use Rattle.std.specs.Prelude.{IfErr}
+use Rattle.std.proofs.Common.{◌++◌, ◌-◌, List, [], ℕ, refl, sym, ap, ◌∙◌, append-nil, arith, string_bytes, Bor, rules}
 use Rattle.syntect_documents.specs.syntect_assets.syntect_theme.declared.style.Style.{Style}
 use Rattle.syntect_documents.specs.syntect_writers.Spans.{background_of, opening}
 use Rattle.syntect_documents.specs.syntect_writers.declared.html.IncludeBackground.{IncludeBackground}
@@ -74,10 +73,9 @@ returns-in_err-line-clause-faults g c =
     let last = c.loop-number.bytes.items in
     let bytes = c.next_line.new.line.items in
     let r = c.from_residual-in_err-line.result in
-    let not_utf8 : IfErr r (λ _. ¬ (IsUtf8 bytes)) = search rules in
     no_text_faults (g.L.ReadLines.failed c.args.lines) had r bytes
     (c.lines_of_readers.ensures.no_text had left after last bytes c.loop-number.invariant.2 (gives_more left after last bytes _ c.if-not-branch.false c.in_ok-next_line.ensures.next))
-    not_utf8 (search rules)
+    (rw c.as_slice.ensures.value at c.in_err-line.ensures.not_utf8) (search rules)
 
 pub returns-in_err-pieces-clause-faults : goal.returns-in_err-pieces-clause-faults
 returns-in_err-pieces-clause-faults g c =

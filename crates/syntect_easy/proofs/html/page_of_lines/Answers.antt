@@ -1,4 +1,4 @@
-use Rattle.std.proofs.Common.{rules, ◌++◌, List, [], ℕ, refl, sym, ap, ◌∙◌, append-nil, string_bytes, Bor, IsUtf8}
+use Rattle.std.proofs.Common.{rules, ◌++◌, List, [], ℕ, refl, sym, ap, ◌∙◌, append-nil, string_bytes, Bor}
 use Rattle.std.specs.Prelude.{IfErr}
 use Rattle.std.proofs.lemmas.Result.{err_from_is_err_and}
 use Rattle.syntect_easy.specs.syntect_theme.declared.style.Style.{Style}
@@ -24,7 +24,7 @@ loop-init g c = (
 pub returns-then-not-branch-clause-page : goal.returns-then-not-branch-clause-page
 returns-then-not-branch-clause-page g c = λ definitions syntax b l.
     let left = g.R.ReadLines.ahead c.loop.reader in
-    let after = g.R.ReadLines.ahead c.next_line.new.reader in
+    let after = g.R.ReadLines.ahead c.next_line.new.lines in
     let last = c.loop.bytes.items in
     let bytes = c.next_line.new.line.items in
     bytes_whole c.args.ss.now c.args.theme.now syntax (g.R.ReadLines.ahead c.args.reader) left after last (string_bytes c.loop.page) (string_bytes c.push_str.new.self) bytes c.loop.highlighter
@@ -34,7 +34,7 @@ returns-then-not-branch-clause-page g c = λ definitions syntax b l.
 pub returns-in_err-pieces-clause-refused : goal.returns-in_err-pieces-clause-refused
 returns-in_err-pieces-clause-refused g c = λ definitions syntax b l.
     let left = g.R.ReadLines.ahead c.loop.reader in
-    let after = g.R.ReadLines.ahead c.next_line.new.reader in
+    let after = g.R.ReadLines.ahead c.next_line.new.lines in
     let last = c.loop.bytes.items in
     let bytes = c.next_line.new.line.items in
     let p = err_from_is_err_and c.from_residual-in_err-pieces.result c.from_residual-in_err-pieces.ensures.1 in
@@ -49,7 +49,7 @@ loop-preserved g c = (
   c.append.ensures.kept ∙ c.loop.invariant.0,
   λ definitions syntax b l.
       let left = g.R.ReadLines.ahead c.loop.reader in
-      let after = g.R.ReadLines.ahead c.next_line.new.reader in
+      let after = g.R.ReadLines.ahead c.next_line.new.lines in
       let last = c.loop.bytes.items in
       let bytes = c.next_line.new.line.items in
       let s = c.loop.invariant.1 definitions syntax b l in
@@ -83,13 +83,13 @@ pub returns-in_err-line-clause-refused : goal.returns-in_err-line-clause-refused
 returns-in_err-line-clause-refused g c = λ definitions syntax b l.
     let s = c.loop.invariant.1 definitions syntax b l in
     let left = g.R.ReadLines.ahead c.loop.reader in
-    let after = g.R.ReadLines.ahead c.next_line.new.reader in
+    let after = g.R.ReadLines.ahead c.next_line.new.lines in
     let last = c.loop.bytes.items in
     let bytes = c.next_line.new.line.items in
     let r = c.from_residual-in_err-line.result in
-    let not_utf8 : IfErr r (λ _. ¬ (IsUtf8 bytes)) = search rules in
     any_no_text (g.R.ReadLines.failed c.args.reader) c.args.ss.now syntax (g.R.ReadLines.ahead c.args.reader) r c.args.theme.now left after last bytes s.rows c.loop.highlighter s.read
-    (gives_more left after last bytes _ c.if-not-branch.false c.in_ok-next_line.ensures.next) not_utf8 (search rules)
+    (gives_more left after last bytes _ c.if-not-branch.false c.in_ok-next_line.ensures.next)
+    (rw c.as_slice.ensures.value at c.in_err-line.ensures.not_utf8) (search rules)
 
 pub returns-in_err-append-clause-refused : goal.returns-in_err-append-clause-refused
 returns-in_err-append-clause-refused g c = λ definitions syntax b l.

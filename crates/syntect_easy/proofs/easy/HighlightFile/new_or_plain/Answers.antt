@@ -5,7 +5,7 @@ use Rattle.std.specs.Prelude.{Option}
 use Rattle.std.specs.declared.io.Error.{Error as IoError}
 use Rattle.syntect_easy.specs.syntect_base.Trees.{opened, not_opened}
 use Rattle.syntect_easy.specs.Files.{IsFileFault, IsFrontFault, IsToldWithin, file_unopened, file_unread}
-use Rattle.syntect_easy.proofs.FileLaws.{told_is_for, one_fault, faults_within, no_start_within}
+use Rattle.syntect_easy.proofs.FileLaws.{told_is_for, one_fault, faults_within}
 use Rattle.syntect_easy.proofs.easy.HighlightFile.new_or_plain.Goals as goal
 
 pub returns-in-Ok-new-2-clause-leads : goal.returns-in-Ok-new-2-clause-leads
