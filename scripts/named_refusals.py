@@ -29,6 +29,7 @@ ERRORS = {
     "FolderWithinError": "syntect_grammar_limits/src/folder_error.rt",
     "FindWithinError": "syntect_grammar_limits/src/first_line_error.rt",
     "AssetsError": "syntect_assets/src/error.rt",
+    "LinesError": "syntect_easy/src/reading.rt",
     "ReadWithinError": "syntect_parsing/src/within.rt",
     "HighlightWithinError": "syntect_easy/src/within.rt",
     "ParseThemeError": "syntect_base/src/theme.rt",

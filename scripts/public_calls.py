@@ -20,7 +20,7 @@ CRATES = (
 TRIALS = ["calls", "sets", "faults"]
 REFUSALS = re.compile(
     r"\b(AllocError|ParseScopeError|ScopeError|ParsingError|ParseSyntaxError|LoadWithinError|FolderWithinError|FindWithinError|ReadWithinError|HighlightWithinError|ParseThemeError|LoadingError|MetadataError|"
-    r"PatternError|SettingsError|AssetsError|Error)\b"
+    r"PatternError|SettingsError|AssetsError|LinesError|Error)\b"
 )
 ITEM = re.compile(r"^(?:impl\b[^{;]*|(?:    )?(?:pub )?(?:const )?fn [^{;]*|#\[derive\([^)]*\)\]\n(?:///.*\n)*pub (?:struct|enum) \w+)", re.M)
 

@@ -7,7 +7,7 @@ use Rattle.std.specs.Cmp.Lexicographic.{slice_cmp}
 use Rattle.std.specs.Ordering.{nat_cmp}
 use Rattle.std.specs.Prelude.{IfOk, Result, Ok, Err}
 use Rattle.syntect_assets.specs.syntect_base.Trees.{Answer, has_bytes}
-use Rattle.syntect_assets.specs.syntect_base.Walks.{IsWalk, RefusesWalk, no_memory_yet}
+use Rattle.syntect_assets.specs.syntect_base.Walks.{IsWalk, no_memory_yet}
 use Rattle.syntect_assets.specs.syntect_base.declared.loading.LoadingError.{LoadingError}
 use Rattle.syntect_assets.specs.syntect_base.declared.loading.LoadingError.TheVariants as loading
 use Rattle.syntect_assets.specs.syntect_base.declared.utils.Sought.TheVariants.{Themes}

@@ -7,7 +7,6 @@ use Rattle.std.specs.Ordering.{nat_cmp}
 use Rattle.syntect_assets.specs.syntect_base.Trees.{Answer, opened}
 use Rattle.syntect_assets.specs.syntect_grammar.Finding.{found_by_token}
 use Rattle.syntect_assets.specs.syntect_grammar_contexts.declared.syntax_reference.SyntaxReference.{SyntaxReference}
-use Rattle.syntect_assets.specs.syntect_grammar.declared.syntax_set.SyntaxSet.{SyntaxSet}
 use Rattle.syntect_assets.specs.syntect_grammar.declared.error.Error.{Error}
 use Rattle.syntect_assets.specs.syntect_grammar.declared.error.Error.TheVariants as error
 use Rattle.syntect_assets.specs.syntect_theme.declared.theme.Theme.{Theme}

@@ -46,8 +46,6 @@ RefusesReading Told limits set path (refusal.NotShown e) =
 RefusesReading Told limits set path refusal.Memory = Unit {0}
 RefusesReading Told limits set path r = ⊥
 
--- ---- For proofs and private functions alone ----
-
 -- a refusal to show a file is told: a fault of the file, with its path
 abbrev pub TellsFile : Error → AssetsError → Type 0
 TellsFile e (refusal.NotRead told) = (fault : IoError) × (e ≡ error.Io fault)

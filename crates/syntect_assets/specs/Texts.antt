@@ -1,5 +1,5 @@
 -- The text that shows another one, in each format.
-use Rattle.std.specs.Prelude.{◌≡◌, ℕ, ◌+◌, List, true, [], ◌∷◌, ◌++◌, Option, Some, None, codes, IsUtf8}
+use Rattle.std.specs.Prelude.{◌≡◌, ℕ, ◌+◌, List, true, [], ◌∷◌, ◌++◌, Option, Some, None, codes}
 use Rattle.std.specs.Borrow.{Bor}
 use Rattle.std.specs.List.{flat_map}
 use Rattle.syntect_assets.specs.syntect_base.declared.limits.Limits.{Limits}

@@ -21,7 +21,7 @@ use crate::below::values::text::Text;
 use crate::builder::{AssetsBuilder, refused};
 use crate::error::AssetsError;
 use crate::format::Format;
-use crate::lines::{PlainLine, text_of_lines};
+use crate::lines::{PlainLine, shown_lines, text_of_lines};
 use std::alloc::{AllocError, Global};
 use std::path::Path;
 use syntect_easy::Error;
@@ -213,7 +213,7 @@ impl Assets {
         ensures refused { IfErr result RefusesLine }
     {
         let lines = HighlightLines::new(alloc, syntax, theme)?;
-        let (text, plain) = text_of_lines(
+        let (text, plain) = shown_lines(
             alloc,
             text.as_bytes(),
             lines,
@@ -286,7 +286,7 @@ impl Assets {
         let written = text_of_lines(alloc, lines, highlighter, format, &self.set, theme, limits);
         let (text, plain) = match written {
             Ok(written) => written,
-            Err(e) => return Err(refused_file(alloc, path, e)?),
+            Err(e) => return Err(refused_file(alloc, path, Error::from(e))?),
         };
         Ok(Shown {
             text,

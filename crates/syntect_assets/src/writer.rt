@@ -7,8 +7,7 @@ use crate::below::theme::theme::Theme;
 use crate::below::writers::spans::SpanWriter;
 use crate::format::{Colors, Format};
 use crate::screen::push_screen_text;
-use std::alloc::Global;
-use syntect_easy::Error;
+use std::alloc::{AllocError, Global};
 use syntect_easy::html::{IncludeBackground, start_highlighted_html_snippet};
 use syntect_easy::util::push_24_bit_terminal_escaped;
 
@@ -38,7 +37,11 @@ pub(crate) struct TextWriter {
 
 impl TextWriter {
     /// A text without lines.
-    pub(crate) fn new(alloc: Global, format: Format, theme: &Theme) -> Result<TextWriter, Error>
+    pub(crate) fn new(
+        alloc: Global,
+        format: Format,
+        theme: &Theme,
+    ) -> Result<TextWriter, AllocError>
         ensures way { IfOk result (λ w. w.way ≡ ground_of format theme.now) }
         ensures front { IfOk result (λ w. string_bytes w.text ≡ front_of format theme.now) }
     {
@@ -61,7 +64,7 @@ impl TextWriter {
     }
 
     /// Appends a line, in styled pieces.
-    pub(crate) fn append(&mut self, pieces: &[(Style, &str)]) -> Result<(), Error>
+    pub(crate) fn append(&mut self, pieces: &[(Style, &str)]) -> Result<(), AllocError>
         ensures way { OnOk result (self.new.way ≡ self.old.way) }
         ensures text { OnOk result (string_bytes self.new.text
             ≡ string_bytes self.old.text ++ line_of self.old.way pieces.now) }
@@ -75,7 +78,7 @@ impl TextWriter {
     }
 
     /// The text, with what stands after its lines.
-    pub(crate) fn whole(self) -> Result<String, Error>
+    pub(crate) fn whole(self) -> Result<String, AllocError>
         ensures { IfOk result (λ text. string_bytes text
             ≡ string_bytes self.text ++ end_of self.way) }
     {

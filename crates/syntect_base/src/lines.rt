@@ -34,6 +34,7 @@ pub trait ReadLines {
 /// Any buffered reader, of which the standard library doesn't tell which read failed.
 impl<R: BufRead> ReadLines for R {
     ghost ahead = { λ reader. R.Read.remaining reader };
+
     ghost failed = { λ reader e. Unit {0} };
 
     fn read_next(&mut self, line: &mut Vec<u8>) -> io::Result<usize> {

@@ -6,6 +6,7 @@ ghost use Rattle.syntect_documents.specs.syntect_grammar_contexts.declared.synta
 ghost use Rattle.syntect_documents.specs.syntect_easy.Built.{IsBuilt, IsSyntaxOfBuilt};
 ghost use Rattle.syntect_documents.specs.syntect_easy.Files.{FaultsAre, IsLineFault};
 ghost use Rattle.syntect_documents.specs.syntect_easy.Leads.{Leads};
+ghost use Rattle.syntect_documents.specs.syntect_easy.LineErrors.{error_of};
 ghost use Rattle.syntect_documents.specs.syntect_easy.Rows.{IsTextOf};
 ghost use Rattle.syntect_documents.specs.syntect_assets.Assets.{RefusesLine, RefusesText, language_named};
 ghost use Rattle.syntect_documents.specs.syntect_assets.Refusals.{RefusesReading};
@@ -21,7 +22,7 @@ use crate::below::easy::Error;
 use crate::below::easy::easy::{HighlightFile, HighlightLines};
 use crate::below::easy::html::{IncludeBackground, SpanWriter, start_highlighted_html_snippet};
 use crate::below::easy::laws::{lines_of_readers, lines_within_limits};
-use crate::below::easy::reading::{FileLines, next_line, text_of};
+use crate::below::easy::reading::{FileLines, LinesError, next_line, text_of};
 use crate::below::parsing::syntax_set::{SyntaxReference, SyntaxSet};
 use crate::below::theme::style::Style;
 use crate::below::theme::theme::Theme;
@@ -89,6 +90,30 @@ fn numbered_lines<L: ReadLines + Drop>(
         first = first_of(first, number - form.first, limit);
     }
     Err(Error::Fmt(fmt::Error))
+}
+
+/// The same of a file's lines, whose refusals are those of lines.
+fn numbered_of_lines<L: ReadLines + Drop>(
+    alloc: Global,
+    lines: L,
+    highlighter: HighlightLines<'_>,
+    form: LineForm<'_>,
+    set: &SyntaxSet,
+    theme: &Theme,
+    limits: &Limits,
+) -> Result<(String, Option<PlainLine>), LinesError>
+    ensures text { (definitions : List ADefinition) (syntax : ASyntax)
+        → IsSyntaxOfBuilt set.now syntax definitions
+        → Leads set.now theme.now syntax [] [] highlighter.entry
+        → IfOk result (λ r. (text : List ℕ) × IsTextOf (L.ahead lines) text × IsUtf8 text
+        × IsNumbered limits.now form.entry set.now theme.now syntax text (string_bytes r.0) r.1) }
+    ensures faults { IfErr result
+        (λ e. FaultsAre (IsLineFault (L.failed lines) (L.ahead lines)) (error_of e)) }
+{
+    match numbered_lines(alloc, lines, highlighter, form, set, theme, limits) {
+        Ok(shown) => Ok(shown),
+        Err(e) => Err(LinesError::from(e)),
+    }
 }
 
 /// A text in a syntax of the set, by a theme, as HTML with inline styles: the page of `Format::Html`
@@ -181,10 +206,10 @@ pub fn numbered_file<T: Tree>(
         reader: file.reader,
     };
     let highlighter = file.highlight_lines;
-    let written = numbered_lines(alloc, lines, highlighter, form, &assets.set, theme, limits);
+    let written = numbered_of_lines(alloc, lines, highlighter, form, &assets.set, theme, limits);
     let (text, plain) = match written {
         Ok(written) => written,
-        Err(e) => return Err(refused_file(alloc, path, e)?),
+        Err(e) => return Err(refused_file(alloc, path, Error::from(e))?),
     };
     Ok(Shown {
         text,

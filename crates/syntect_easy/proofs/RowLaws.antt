@@ -213,14 +213,17 @@ reading_goes_on had left after last bytes s g = record {
 
 pub reading_finds_no_text : ReadingFindsNoText
 reading_finds_no_text had left after last bytes s g u =
-    let t = text_with_rest had after (s.done ++ bytes) bytes (less_left had left after s.done last bytes s.is_left g) in
-    ((s.done ++ bytes) ++ t.0, t.2, record {
-      before = s.lines;
-      line = bytes;
-      after = lines_of t.0;
-      lines = lines_more s.done last bytes bytes t.0 s.lines s.are g.0 g.1 g.2 refl t.1;
-      no_text = u;
-    })
+    let t = text_with_rest had after (s.done ++ bytes) bytes (less_left had left after s.done last bytes s.is_left g) in (
+      (s.done ++ bytes) ++ t.0,
+      t.2,
+      record {
+        before = s.lines;
+        line = bytes;
+        after = lines_of t.0;
+        lines = lines_more s.done last bytes bytes t.0 s.lines s.are g.0 g.1 g.2 refl t.1;
+        no_text = u;
+      },
+    )
 
 -- ---- rows ----
 

@@ -105,12 +105,6 @@ RowsEnd = (set : SyntaxSet) (theme : Theme) (syntax : SyntaxReference)
     → AreRowsSoFar set theme syntax had left last rows h → GivesNext left last after bytes false
     → (text : List ℕ) × IsTextOf had text × IsUtf8 text × AreRowsOf set theme syntax text rows
 
--- some text of the reader ends with this refusal
-abbrev pub HasStopped : (Failed : IoError → Type 0) → SyntaxSet → SyntaxReference
-    → Option (List ℕ) → Error → Type 0
-HasStopped Failed set syntax had e =
-    (text : List ℕ) × IsTextOf had text × IsStopped Failed set syntax text e
-
 -- a line that is refused ends the rows
 abbrev pub RowsRefuse : Type 0
 RowsRefuse =
@@ -176,3 +170,11 @@ ReadingFindsNoText =
     (had left after : Option (List ℕ)) (last bytes : List ℕ) → AreLinesSoFar had left last
     → GivesNext left last after bytes true → ¬ (IsUtf8 bytes)
     → (text : List ℕ) × IsTextOf had text × HasNoText text
+
+-- ---- For proofs and private functions alone ----
+
+-- some text of the reader ends with this refusal
+abbrev pub HasStopped : (Failed : IoError → Type 0) → SyntaxSet → SyntaxReference
+    → Option (List ℕ) → Error → Type 0
+HasStopped Failed set syntax had e =
+    (text : List ℕ) × IsTextOf had text × IsStopped Failed set syntax text e

@@ -4,7 +4,9 @@ pub use syntect_grammar_limits::below::{grammar, metadata, regexes, values};
 
 /// Of `syntect_base`.
 pub mod base {
-    pub use syntect_style::syntect_base::{limits, lines, loading, settings, syntax, theme, tree, utils};
+    pub use syntect_style::syntect_base::{
+        limits, lines, loading, settings, syntax, theme, tree, utils,
+    };
 }
 
 /// Of `syntect_count`.

@@ -78,6 +78,7 @@ impl<'a, T: Tree> ReadLines for FileLines<'a, T> {
     ghost use Rattle.syntect_easy.specs.syntect_base.Trees.{not_read_on};
 
     ghost ahead = { λ lines. reader_remaining T.File.Read.remaining lines.reader };
+
     ghost failed = { λ lines e. T.told lines.tree.now (not_read_on lines.path.now e) };
 
     fn read_next(&mut self, line: &mut Vec<u8>) -> io::Result<usize> {

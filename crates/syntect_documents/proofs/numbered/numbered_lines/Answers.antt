@@ -57,7 +57,7 @@ loop-number-preserved g c = (
       (omega (arith, c.loop-number.auto.number))
       c.first_of-first.ensures,
   c.lines_of_readers.ensures.more (g.L.ReadLines.ahead c.args.lines) (g.L.ReadLines.ahead c.loop-number.lines) (g.L.ReadLines.ahead c.next_line.new.lines) c.loop-number.bytes.items c.next_line.new.line.items c.loop-number.invariant.2
-  (gives_more (g.L.ReadLines.ahead c.loop-number.lines) (g.L.ReadLines.ahead c.next_line.new.lines) c.loop-number.bytes.items c.next_line.new.line.items _ c.if-not-branch.false c.in_ok-next_line.ensures.next),
+      (gives_more (g.L.ReadLines.ahead c.loop-number.lines) (g.L.ReadLines.ahead c.next_line.new.lines) c.loop-number.bytes.items c.next_line.new.line.items _ c.if-not-branch.false c.in_ok-next_line.ensures.next),
   λ e f. c.loop-number.invariant.3 e (c.next_line.ensures.same e f),
 )
 

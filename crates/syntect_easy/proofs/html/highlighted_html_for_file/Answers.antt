@@ -22,5 +22,9 @@ returns-in-Err-page_of_reader-clause-refused g c = λ definitions b.
     let set = c.args.ss.now in
     let e = c.in-Err-page_of_reader.e in
     let h = c.in-Err-page_of_reader.ensures.refused definitions u.1 (built_of set path u.1 definitions b u.3.is_for) u.4 in
-    rw c.from.ensures (inr (u.1, h.0, text_of_file Told set path u.1 u.0 _ u.5 u.2 u.3 h.0 h.1,
-    subst (λ (p : List ℕ). IsStopped (λ x. Told (not_read_on p x)) set u.1 h.0 (error_of e)) c.as_str.ensures h.2))
+    rw c.from.ensures (inr (
+      u.1,
+      h.0,
+      text_of_file Told set path u.1 u.0 _ u.5 u.2 u.3 h.0 h.1,
+      subst (λ (p : List ℕ). IsStopped (λ x. Told (not_read_on p x)) set u.1 h.0 (error_of e)) c.as_str.ensures h.2,
+    ))

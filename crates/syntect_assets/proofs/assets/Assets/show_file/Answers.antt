@@ -3,6 +3,7 @@ use Rattle.std.specs.Io.Buffered.{reader_remaining}
 use Rattle.std.specs.Path.{path_bytes}
 use Rattle.syntect_assets.specs.syntect_base.Trees.{not_read_on}
 use Rattle.syntect_easy.specs.Files.{FaultsAre, IsLineFault}
+use Rattle.syntect_easy.specs.LineErrors.{error_of}
 use Rattle.syntect_easy.proofs.FileLaws.{built_told, text_kept}
 use Rattle.syntect_assets.proofs.AssetsLaws.{file_left_off, file_refused}
 use Rattle.syntect_assets.proofs.assets.Assets.show_file.Goals as goal
@@ -24,6 +25,8 @@ returns-in-Err-written-clause-refused g c =
     let u = c.in-Ok.ensures.unread in
     let Told = g.T.Tree.told c.args.tree.now in
     let path = path_bytes c.args.path in
-    let seen = reader_remaining g.T.Tree.File.Read.remaining c.in-Ok.opened.0.reader in
-    file_left_off Told c.args.self.now.limits c.args.self.now.set path u.0 seen u.2 u.5 c.in-Err-written.e c.in_ok-refused_file-in-Err-written.field-0 c.in_ok-refused_file-in-Err-written.ensures
-    (subst (λ (p : List ℕ). FaultsAre (IsLineFault (λ e. Told (not_read_on p e)) seen) c.in-Err-written.e) c.as_str.ensures c.in-Err-written.ensures.faults)
+    let seen = reader_remaining g.T.File.Read.remaining c.in-Ok.opened.0.reader in
+    let e = error_of c.in-Err-written.e in
+    let faults = subst (λ (p : List ℕ). FaultsAre (IsLineFault (λ x. Told (not_read_on p x)) seen) e) c.as_str.ensures c.in-Err-written.ensures.faults in
+    file_left_off Told c.args.self.now.limits c.args.self.now.set path u.0 seen u.2 u.5 c.from.result c.in_ok-refused_file-in-Err-written.field-0 c.in_ok-refused_file-in-Err-written.ensures
+    (rw c.from.ensures faults)

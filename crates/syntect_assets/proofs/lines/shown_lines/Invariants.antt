@@ -8,7 +8,7 @@ use Rattle.syntect_easy.specs.Leads.{Leads}
 use Rattle.syntect_easy.specs.Rows.{AreLinesSoFar}
 use Rattle.syntect_assets.specs.Texts.{ground_of}
 use Rattle.syntect_assets.proofs.TextLaws.{IsSoFar}
-use Rattle.syntect_assets.proofs.lines.text_of_lines.Given as goal
+use Rattle.syntect_assets.proofs.lines.shown_lines.Given as goal
 
 -- the writer writes as the format has it, the text has the lines so far, which are those that were
 -- read, and the reader's faults are still those of the one that came in
