@@ -286,7 +286,7 @@ impl Assets {
         let written = text_of_lines(alloc, lines, highlighter, format, &self.set, theme, limits);
         let (text, plain) = match written {
             Ok(written) => written,
-            Err(e) => return Err(refused_file(alloc, path, Error::from(e))?),
+            Err(e) => return Err(refused_file(alloc, path, e.into_error())?),
         };
         Ok(Shown {
             text,

@@ -64,7 +64,7 @@ pub fn text_of_lines<L: ReadLines + Drop>(
 {
     match shown_lines(alloc, lines, highlighter, format, set, theme, limits) {
         Ok(shown) => Ok(shown),
-        Err(e) => Err(LinesError::from(e)),
+        Err(e) => Err(LinesError::of(e)),
     }
 }
 

@@ -48,7 +48,7 @@ pub(crate) fn text_of_file<T: Tree>(
     let written = text_of_lines(alloc, lines, highlighter, form, set, theme, &limits);
     let (text, first) = match written {
         Ok(written) => written,
-        Err(e) => return Err(Error::from(e)),
+        Err(e) => return Err(e.into_error()),
     };
     Ok((text, note_of(limit, first)))
 }

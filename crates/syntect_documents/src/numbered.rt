@@ -112,7 +112,7 @@ fn numbered_of_lines<L: ReadLines + Drop>(
 {
     match numbered_lines(alloc, lines, highlighter, form, set, theme, limits) {
         Ok(shown) => Ok(shown),
-        Err(e) => Err(LinesError::from(e)),
+        Err(e) => Err(LinesError::of(e)),
     }
 }
 
@@ -209,7 +209,7 @@ pub fn numbered_file<T: Tree>(
     let written = numbered_of_lines(alloc, lines, highlighter, form, &assets.set, theme, limits);
     let (text, plain) = match written {
         Ok(written) => written,
-        Err(e) => return Err(refused_file(alloc, path, Error::from(e))?),
+        Err(e) => return Err(refused_file(alloc, path, e.into_error())?),
     };
     Ok(Shown {
         text,

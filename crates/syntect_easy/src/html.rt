@@ -114,7 +114,7 @@ pub fn highlighted_html_for_file<T: Tree>(
             };
             match page_of_reader(alloc, lines, file.highlight_lines, ss, theme) {
                 Ok(page) => Ok(page),
-                Err(e) => Err(Error::from(e)),
+                Err(e) => Err(e.into_error()),
             }
         }
         Err(e) => Err(e),
@@ -142,7 +142,7 @@ fn page_of_reader<R: ReadLines + Drop>(
 {
     match page_of_lines(alloc, reader, highlighter, ss, theme) {
         Ok(page) => Ok(page),
-        Err(e) => Err(LinesError::from(e)),
+        Err(e) => Err(LinesError::of(e)),
     }
 }
 

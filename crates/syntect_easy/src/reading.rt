@@ -6,6 +6,7 @@ ghost use Rattle.std.specs.List.{position};
 ghost use Rattle.std.specs.Str.{IsUtf8};
 ghost use Rattle.std.specs.declared.io.Error.{Error as AnIoError};
 ghost use Rattle.syntect_easy.specs.Files.{IsFirstOf};
+ghost use Rattle.syntect_easy.specs.LineErrors.{error_of, lines_error};
 ghost use Rattle.syntect_easy.specs.Pages.{IsReadFault, TellsNoText};
 ghost use Rattle.syntect_easy.specs.Rows.{can_go_on, GivesNext};
 
@@ -16,7 +17,7 @@ use std::io::{BufReader, Error as IoError, ErrorKind};
 use std::{fmt, io, str};
 use syntect_parsing::error::{Error, ParsingError};
 
-/// Why the lines of a reader are not shown: what `Error` has of it, but not the refusals of loading.
+/// Why a reader's lines are not shown: what `Error` has of it, without the refusals of loading.
 #[derive(Drop)]
 pub enum LinesError {
     /// Reading failed, or a line is not UTF-8.
@@ -31,13 +32,11 @@ pub enum LinesError {
     Memory,
 }
 
-impl From<Error> for LinesError {
-    ghost use Rattle.std.specs.Prelude.{◌≡◌};
-    ghost use Rattle.syntect_easy.specs.LineErrors.{lines_error};
-
-    ghost from_gives = { λ e r. r ≡ lines_error e };
-
-    fn from(e: Error) -> LinesError {
+impl LinesError {
+    /// The refusal of a call as one of lines. Those of loading, which no line has, are lost.
+    pub fn of(e: Error) -> LinesError
+        ensures { result ≡ lines_error e }
+    {
         match e {
             Error::Io(e) => LinesError::Io(e),
             Error::ParsingError(e) => LinesError::ParsingError(e),
@@ -46,16 +45,12 @@ impl From<Error> for LinesError {
             _ => LinesError::Memory,
         }
     }
-}
 
-impl From<LinesError> for Error {
-    ghost use Rattle.std.specs.Prelude.{◌≡◌};
-    ghost use Rattle.syntect_easy.specs.LineErrors.{error_of};
-
-    ghost from_gives = { λ e r. r ≡ error_of e };
-
-    fn from(e: LinesError) -> Error {
-        match e {
+    /// The same refusal of a call.
+    pub fn into_error(self) -> Error
+        ensures { result ≡ error_of self }
+    {
+        match self {
             LinesError::Io(e) => Error::Io(e),
             LinesError::ParsingError(e) => Error::ParsingError(e),
             LinesError::ScopeError(e) => Error::ScopeError(e),

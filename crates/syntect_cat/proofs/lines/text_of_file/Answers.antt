@@ -31,4 +31,4 @@ returns-in-Err-written-clause-refused g c =
     let seen = reader_remaining g.T.File.Read.remaining c.in-Ok.opened.0.reader in
     let e = error_of c.in-Err-written.e in
     let faults = subst (λ (p : List ℕ). FaultsAre (IsLineFault (λ x. Told (not_read_on p x)) seen) e) c.as_str.ensures c.in-Err-written.ensures.faults in
-    not_read_to_end Told c.default-limits.result c.args.set.now path u.0 seen u.2 u.5 c.from.result (rw c.from.ensures faults)
+    not_read_to_end Told c.default-limits.result c.args.set.now path u.0 seen u.2 u.5 c.into_error.result (rw c.into_error.ensures faults)

@@ -28,5 +28,5 @@ returns-in-Err-written-clause-refused g c =
     let seen = reader_remaining g.T.File.Read.remaining c.in-Ok.opened.0.reader in
     let e = error_of c.in-Err-written.e in
     let faults = subst (λ (p : List ℕ). FaultsAre (IsLineFault (λ x. Told (not_read_on p x)) seen) e) c.as_str.ensures c.in-Err-written.ensures.faults in
-    file_left_off Told c.args.assets.now.limits c.args.assets.now.set path u.0 seen u.2 u.5 c.from.result c.in_ok-refused_file-in-Err-written.field-0 c.in_ok-refused_file-in-Err-written.ensures
-    (rw c.from.ensures faults)
+    file_left_off Told c.args.assets.now.limits c.args.assets.now.set path u.0 seen u.2 u.5 c.into_error.result c.in_ok-refused_file-in-Err-written.field-0 c.in_ok-refused_file-in-Err-written.ensures
+    (rw c.into_error.ensures faults)

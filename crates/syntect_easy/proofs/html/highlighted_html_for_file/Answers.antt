@@ -22,7 +22,7 @@ returns-in-Err-page_of_reader-clause-refused g c = λ definitions b.
     let set = c.args.ss.now in
     let e = c.in-Err-page_of_reader.e in
     let h = c.in-Err-page_of_reader.ensures.refused definitions u.1 (built_of set path u.1 definitions b u.3.is_for) u.4 in
-    rw c.from.ensures (inr (
+    rw c.into_error.ensures (inr (
       u.1,
       h.0,
       text_of_file Told set path u.1 u.0 _ u.5 u.2 u.3 h.0 h.1,
