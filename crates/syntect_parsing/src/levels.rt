@@ -18,6 +18,7 @@ use crate::taken::Taken;
 use std::alloc::{AllocError, Global};
 use std::mem;
 use syntect_reading_choice::level::Level;
+use syntect_reading_choice::levels::Levels;
 use syntect_reading_choice::position::{MOST_IDLE, Position, Record};
 use syntect_reading_choice::search::Candidate;
 
@@ -88,7 +89,7 @@ fn open_levels(
     taken: &Taken<'_, '_>,
     kept: Seq<ContextId>,
     ids: &[ContextId],
-    levels: &mut Seq<Level>,
+    levels: &mut Levels,
 ) -> Result<(), AllocError>
     ensures { IfOk result (λ _. levels.new ≡ levels.old
         ++ new_levels taken.now.set.now (opening_by taken.now) kept
@@ -109,7 +110,7 @@ fn open_levels(
 }
 
 /// The levels after a match.
-fn apply_operation(taken: &Taken<'_, '_>, levels: &mut Seq<Level>) -> Result<(), AllocError>
+fn apply_operation(taken: &Taken<'_, '_>, levels: &mut Levels) -> Result<(), AllocError>
     ensures { IfOk result (λ _. levels.new
         ≡ levels_after taken.now.set.now taken.now.line.now levels.old (live_of taken.now)) }
 {

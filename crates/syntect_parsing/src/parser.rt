@@ -29,6 +29,7 @@ use crate::within::{LineLimit, ReadWithinError};
 use std::alloc::{AllocError, AllocFailed, Global};
 use syntect_reading_choice::laws::dialect_finds_in_text;
 pub use syntect_reading_choice::level::Level;
+use syntect_reading_choice::levels::Levels;
 use syntect_reading_choice::position::Position;
 pub use syntect_reading_choice::search::Regions;
 
@@ -388,7 +389,7 @@ fn at_start(state: &Standing) -> Result<Position, AllocError>
         first_line: _,
     } = copied(state)?;
     Ok(Position {
-        levels,
+        levels: Levels::from_seq(levels),
         cuts,
         place: 0,
         last: None,
@@ -527,7 +528,7 @@ fn read_line(
         idle: _,
     } = p;
     let left = Standing {
-        levels,
+        levels: levels.into_seq(),
         cuts,
         first_line: false,
     };

@@ -46,6 +46,9 @@ fn drop_from(cuts: &mut Vec<usize>, height: usize)
 fn trim(alloc: Global, p: &mut Position)
     ensures { p.new ≡ trimmed p.old }
 {
+    if p.cuts.is_empty() {
+        return;
+    }
     let height = p.levels.len();
     let mut cuts = mem::replace(&mut p.cuts, Seq::new(alloc)).into_vec();
     drop_from(&mut cuts, height);

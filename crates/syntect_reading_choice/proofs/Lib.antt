@@ -1,4 +1,5 @@
 pub mod ListLaws
+pub mod BareLaws
 pub mod DialectLaws
 pub mod Finds
 pub mod Places

@@ -4,6 +4,7 @@ pub mod Turn
 pub mod Found
 pub mod ChoiceViews
 pub mod Parts
+pub mod Bare
 pub mod Shorter
 pub mod Reader
 pub mod Ahead

@@ -1,9 +1,9 @@
 //! The patterns that a turn looks at.
-ghost use Rattle.std.specs.Prelude.{◌≡◌, ◌++◌, map, find, is_none, true, false, IfOk, Some, None};
+ghost use Rattle.std.specs.Prelude.{◌≡◌, ◌++◌, drop, map, find, is_none, true, false, IfOk, Some, None, unwrap_or};
 ghost use Rattle.std.specs.Option.{option_copied, option_to_list};
 ghost use Rattle.std.specs.List.{flat_map};
 ghost use Rattle.syntect_reading_choice.specs.syntect_grammar.Contexts.{context_at};
-ghost use Rattle.syntect_reading_choice.specs.Chain.{in_sight, prototypes_in};
+ghost use Rattle.syntect_reading_choice.specs.Chain.{in_sight, last, prototypes_in};
 ghost use Rattle.syntect_reading_choice.specs.Parts.{seen_part, parts_by, level_parts, parts_of};
 
 use crate::below::grammar::syntax_definition::{Context, ContextId};
@@ -23,21 +23,37 @@ pub struct Part<'p> {
     pub from_with_prototype: bool,
 }
 
-/// The levels whose prototypes are looked at: those from the last cut on.
+/// The levels from a height on.
 #[tactic(auto, using(crate::proofs::ListLaws::drop_past))]
-fn in_sight(p: &Position) -> &[Level]
-    ensures { result.now ≡ in_sight p.now }
+fn levels_from(levels: &[Level], height: usize) -> &[Level]
+    ensures { result.now ≡ drop height levels.now }
 {
-    let levels = p.levels.as_slice();
-    let from = match p.cuts.as_slice().last() {
-        Some(cut) => *cut,
-        None => 0,
-    };
-    if from <= levels.len() {
-        levels.split_at(from).1
+    if height <= levels.len() {
+        levels.split_at(height).1
     } else {
         &[]
     }
+}
+
+/// The height that the last cut keeps, 0 without one.
+fn last_cut(p: &Position) -> usize
+    ensures { result ≡ unwrap_or (last p.now.cuts) 0 }
+{
+    match p.cuts.as_slice().last() {
+        Some(cut) => *cut,
+        None => 0,
+    }
+}
+
+/// The levels whose prototypes are looked at, those from the last cut on, but for lowest ones that
+/// have none.
+fn bringing(p: &Position) -> &[Level]
+    ensures prototypes { flat_map (λ l. l.prototypes) result.now
+        ≡ flat_map (λ l. l.prototypes) (in_sight p.now) }
+    ensures parts { flat_map level_parts result.now ≡ flat_map level_parts (in_sight p.now) }
+{
+    let height = last_cut(p).max(p.levels.bare());
+    levels_from(p.levels.as_slice(), height)
 }
 
 /// Adds those of contexts, one after another.
@@ -111,7 +127,7 @@ pub fn parts_of<'p>(
         ≡ parts_of reader.now.position.now top.now context.now) }
 {
     let mut parts = Vec::new(reader.alloc);
-    add_levels(in_sight(reader.position), &mut parts)?;
+    add_levels(bringing(reader.position), &mut parts)?;
     add_prototype(context.prototype, &mut parts)?;
     parts.push(Part {
         id: top.context,
@@ -139,7 +155,7 @@ pub fn missing_prototype(reader: &LineReader<'_, '_>, context: &Context) -> Opti
     ensures { result ≡ find (λ id. is_none (context_at reader.now.set.now id))
         (prototypes_in reader.now.position.now context.now) }
 {
-    for level in in_sight(reader.position) {
+    for level in bringing(reader.position) {
         if let Some(id) = missing_of(reader.set, level.prototypes.as_slice()) {
             return Some(id);
         }

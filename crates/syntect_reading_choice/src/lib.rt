@@ -9,6 +9,7 @@ pub mod halt;
 pub mod here;
 pub mod laws;
 pub mod level;
+pub mod levels;
 pub mod position;
 pub mod reader;
 pub mod runs;

@@ -1,6 +1,6 @@
 //! Where the reader of a line stands.
 use crate::below::values::seq::Seq;
-use crate::level::Level;
+use crate::levels::Levels;
 
 /// The number of open levels at which a push is passed over.
 pub const MOST_LEVELS: usize = 100;
@@ -18,7 +18,7 @@ pub struct Record {
 /// What a turn begins with. `idle` counts the empty pushes and sets since the place was reached.
 #[derive(Drop)]
 pub struct Position {
-    pub levels: Seq<Level>,
+    pub levels: Levels,
     pub cuts: Seq<usize>,
     pub place: usize,
     pub last: Option<Record>,

@@ -148,8 +148,8 @@ fn outlook_of(line: &str, place: usize, asks: bool, reach: &mut Reach, tried: us
 
 /// An index of a part, not below this one: no pattern from this one up to it can begin at a place
 /// of which this is seen. Of patterns that may be replaced a list tells nothing, so that none of
-/// them is passed over.
-fn next_in(run: &Run<'_, '_>, outlook: Outlook, from: usize) -> usize
+/// them is passed over. Once a match is found, none is looked for.
+fn next_in(run: &Run<'_, '_>, outlook: Outlook, is_found: bool, from: usize) -> usize
     requires here { outlook.here < 130 }
     requires behind { outlook.behind < 130 }
     ensures later { from ≤ result }
@@ -157,6 +157,9 @@ fn next_in(run: &Run<'_, '_>, outlook: Outlook, from: usize) -> usize
         → (k : ℕ) (d : Flat) → from ≤ k → k < result → k < length (list_in run.now.flats)
         → IsRuledOut line place (slice_index_or (list_in run.now.flats) k d) }
 {
+    if is_found {
+        return from;
+    }
     list_in(&run.flats).next(outlook, from)
 }
 
@@ -372,10 +375,10 @@ fn with_run<'s>(
     dialect_finds_in_text();
     let count = list_in(&run.flats).len();
     let mut best = best;
-    let mut index = next_in(run, outlook, 0);
+    let mut index = next_in(run, outlook, best.candidate.is_some(), 0);
     while index < count && best.candidate.is_none() {
         best = with_pattern(reader, run, part, index, place, best, losses, regions)?;
-        index = next_in(run, outlook, index + 1);
+        index = next_in(run, outlook, best.candidate.is_some(), index + 1);
     }
     Ok(best)
 }

@@ -45,7 +45,7 @@ each-preserved c =
     }
 
 pub returns-clause-accepted : goal.returns-clause-accepted
-returns-clause-accepted c = so_far-end c.each.invariant.read (rw c.in-Ok-false.field-0-test at c.in-Ok-false.ensures.turns) c.requires
+returns-clause-accepted c = rw c.into_seq.ensures (so_far-end c.each.invariant.read (rw c.in-Ok-false.field-0-test at c.in-Ok-false.ensures.turns) c.requires)
 
 pub returns-clause-taken : goal.returns-clause-taken
 returns-clause-taken c =

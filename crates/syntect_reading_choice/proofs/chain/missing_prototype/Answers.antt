@@ -11,8 +11,8 @@ use Rattle.syntect_reading_choice.proofs.chain.missing_prototype.Goals as goal
 pub returns-in-Some : goal.returns-in-Some
 returns-in-Some c =
     let f : ContextId → Bool = λ id. is_none (context_at c.args.reader.now.set.now id) in
-    let rest : List ContextId = flat_map (λ (l : Level). l.prototypes) (drop (c.loop-level.level-index + 1) c.in_sight-level-items.result.now) ++ option_to_list c.args.context.now.prototype in
-    let k = find_at f (λ (l : Level). l.prototypes) c.in_sight-level-items.result.now (option_to_list c.args.context.now.prototype) c.loop-level.level-index c.level-item.result c.loop-level-test.true c.level-item.is in
+    let rest : List ContextId = flat_map (λ (l : Level). l.prototypes) (drop (c.loop-level.level-index + 1) c.bringing-level-items.result.now) ++ option_to_list c.args.context.now.prototype in
+    let k = find_at f (λ (l : Level). l.prototypes) c.bringing-level-items.result.now (option_to_list c.args.context.now.prototype) c.loop-level.level-index c.level-item.result c.loop-level-test.true c.level-item.is in
     let e : Some c.in-Some.id ≡ find f c.as_slice.result.now = sym c.in-Some.is ∙ c.missing_of.ensures in
     let h : find f c.level-item.result.prototypes ≡ Some c.in-Some.id = ap (λ (ids : List ContextId). find f ids) (sym c.as_slice.ensures) ∙ sym e in
     sym (k ∙ ap (λ (o : Option ContextId). option_or o (find f rest)) h) ∙ c.loop-level.invariant
@@ -20,8 +20,8 @@ returns-in-Some c =
 pub loop-level-preserved : goal.loop-level-preserved
 loop-level-preserved c =
     let f : ContextId → Bool = λ id. is_none (context_at c.args.reader.now.set.now id) in
-    let rest : List ContextId = flat_map (λ (l : Level). l.prototypes) (drop (c.loop-level.level-index + 1) c.in_sight-level-items.result.now) ++ option_to_list c.args.context.now.prototype in
-    let k = find_at f (λ (l : Level). l.prototypes) c.in_sight-level-items.result.now (option_to_list c.args.context.now.prototype) c.loop-level.level-index c.level-item.result c.loop-level-test.true c.level-item.is in
+    let rest : List ContextId = flat_map (λ (l : Level). l.prototypes) (drop (c.loop-level.level-index + 1) c.bringing-level-items.result.now) ++ option_to_list c.args.context.now.prototype in
+    let k = find_at f (λ (l : Level). l.prototypes) c.bringing-level-items.result.now (option_to_list c.args.context.now.prototype) c.loop-level.level-index c.level-item.result c.loop-level-test.true c.level-item.is in
     let e : None ≡ find f c.as_slice.result.now = sym c.in_default.is ∙ c.missing_of.ensures in
     let h : find f c.level-item.result.prototypes ≡ None = ap (λ (ids : List ContextId). find f ids) (sym c.as_slice.ensures) ∙ sym e in
     sym (k ∙ ap (λ (o : Option ContextId). option_or o (find f rest)) h) ∙ c.loop-level.invariant
