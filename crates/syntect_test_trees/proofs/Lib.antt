@@ -1,1 +1,2 @@
+mod FailingLaws
 mod FakeLaws

@@ -2,6 +2,7 @@
 #![tactic(auto)]
 
 pub mod below;
+pub mod failing;
 pub mod fake;
 #[cfg(test)]
 mod folders;

@@ -9,13 +9,14 @@ use std::process::Abort;
 use syntect_cat::run;
 
 /// Grammars, a theme and files.
-const DESK: [Entry; 8] = [
+const DESK: [Entry; 9] = [
     ("g", Thing::Folder(b"a.sublime-syntax\0s.sublime-syntax\0")),
     ("g/a.sublime-syntax", Thing::File(GRAMMAR)),
     ("g/s.sublime-syntax", Thing::File(SCRIPT)),
     ("theme", Thing::File(THEME)),
     ("a.t", Thing::File(b" hello")),
     ("script", Thing::File(b"#!tool\na\n")),
+    ("bad.t", Thing::File(b" hello\n\xff\n")),
     ("gone", Thing::Gone),
     ("shut", Thing::Shut),
 ];
@@ -85,4 +86,5 @@ fn runs_of_the_program(rt: HostRuntime) {
     run_is(&rt, ["g", "gone", "html", "a.t"], 1, "", theme);
     run_is(&rt, ["g", "theme", "html", "gone"], 1, "", file);
     run_is(&rt, ["g", "theme", "html", "shut"], 1, "", file);
+    run_is(&rt, ["g", "theme", "html", "bad.t"], 1, "", file);
 }
