@@ -10,24 +10,25 @@ ghost use Rattle.syntect_grammar_limits.specs.syntect_base.Limiting.{usual};
 ghost use Rattle.syntect_grammar_limits.specs.syntect_grammar_loader.Loading.{loaded};
 ghost use Rattle.vulsangi_check.specs.Faults.{IsFaultOf};
 
-use crate::{faults, keys, patterns, references, variables};
+use crate::vulsangi_grammar::findings::{Findings, Lines};
+use crate::vulsangi_grammar::grammar::{Grammar, Item, items_of, yaml_of};
+use crate::vulsangi_grammar::rules::{Grade, NO_THEME, NOT_READ, NOTHING_THERE};
+use crate::vulsangi_grammar::syntect::LoadingError;
+use crate::vulsangi_grammar::syntect::assets::AssetsError;
+use crate::vulsangi_grammar::syntect::highlighting::ThemeSet;
+use crate::vulsangi_grammar::syntect::parsing::{
+    Limits, LoadWithinError, ParseSyntaxError, ScopeRepository, SyntaxDefinition,
+    load_from_str_within,
+};
+use crate::vulsangi_grammar::themes::check_theme;
+use crate::{clears, faults, keys, names, proof, variables};
 use std::alloc::Global;
 use std::fs;
 use std::path::Path;
 use std::rt::Files;
 use syntect_base::utils::files_below;
-use vulsangi_grammar::findings::{Findings, Lines};
-use vulsangi_grammar::grammar::{Grammar, items_of, yaml_of};
-use vulsangi_grammar::names;
-use vulsangi_grammar::rules::{Grade, NO_THEME, NOT_READ, NOTHING_THERE};
-use vulsangi_grammar::syntect::LoadingError;
-use vulsangi_grammar::syntect::assets::AssetsError;
-use vulsangi_grammar::syntect::highlighting::ThemeSet;
-use vulsangi_grammar::syntect::parsing::{
-    Limits, LoadWithinError, ParseSyntaxError, ScopeRepository, SyntaxDefinition,
-    load_from_str_within,
-};
-use vulsangi_grammar::themes::check_theme;
+use vulsangi_contexts::lists::lists_of;
+use vulsangi_contexts::{begins, order, references, rounds, sizes};
 
 /// A definition, or why there is none.
 type Parted = (Option<SyntaxDefinition>, Option<LoadWithinError>);
@@ -93,14 +94,15 @@ struct Around<'g> {
     known: &'g [String],
 }
 
-/// Adds what is found in a grammar, one of those that are looked through.
+/// Adds what is found in a grammar, one of those that are looked through. Answers whether patterns of
+/// a `with_prototype` may leave a context by a `set`.
 fn check_grammar(
     alloc: Global,
-    grammar: &Grammar,
+    (number, grammar): (usize, &Grammar),
     around: &Around<'_>,
     fault: Option<&LoadWithinError>,
     findings: &mut Findings,
-) -> Result<(), AssetsError> {
+) -> Result<bool, AssetsError> {
     let lines = Lines::of(alloc, grammar.path.as_str(), grammar.text.as_str())?;
     let items = items_of(alloc, grammar)?;
     let items = items.as_slice();
@@ -115,8 +117,27 @@ fn check_grammar(
     variables::check(alloc, grammar, &lines, items, findings)?;
     let others = (around.grammars, around.foreign);
     references::check(alloc, grammar, others, &lines, items, findings)?;
-    patterns::check(alloc, &lines, items, findings)?;
-    patterns::check_rounds(alloc, grammar, &lines, findings)
+    check_contexts(alloc, (number, grammar), around, &lines, items, findings)
+}
+
+/// Adds what is found in the contexts of a grammar and in their patterns.
+fn check_contexts(
+    alloc: Global,
+    (number, grammar): (usize, &Grammar),
+    around: &Around<'_>,
+    lines: &Lines<'_>,
+    items: &[Item<'_>],
+    findings: &mut Findings,
+) -> Result<bool, AssetsError> {
+    let lists = lists_of(alloc, grammar, around.foreign, lines, items, findings)?;
+    let lists = lists.as_slice();
+    order::check(alloc, lines, items, lists, findings)?;
+    begins::check(alloc, lines, items, lists, findings)?;
+    rounds::check(alloc, grammar, lines, findings)?;
+    rounds::check_main(alloc, lines, items, lists, findings)?;
+    sizes::check(alloc, lines, items, findings)?;
+    let all = (number, around.grammars);
+    Ok(clears::check(alloc, all, lines, items, lists, findings)?)
 }
 
 /// The contexts of others that grammars name.
@@ -144,20 +165,32 @@ pub fn check_grammars(
         foreign: foreign.as_slice(),
         known,
     };
-    for (grammar, fault) in grammars.iter().zip(faults.iter()) {
+    let (mut all, mut bringing) = (Vec::new(alloc), Vec::new(alloc));
+    for (numbered, fault) in grammars.iter().enumerate().zip(faults.iter()) {
         let mut own = Findings::new(alloc);
-        let fault = fault.as_ref();
-        check_grammar(alloc, grammar, &around, fault, &mut own)?;
+        let (_, grammar) = numbered;
+        let brings = check_grammar(alloc, numbered, &around, fault.as_ref(), &mut own)?;
+        bringing.push(brings)?;
         if grammar.definition.is_some() {
             findings.grammars = findings.grammars.saturating_add(1);
         }
-        let mut found = own.found;
-        found
-            .as_mut_slice()
-            .sort_by_key(alloc, |finding| finding.place)?;
-        for finding in found {
-            findings.found.push(finding)?;
-        }
+        all.push(own)?;
+    }
+    proof::check(alloc, grammars, bringing.as_slice(), all.as_mut_slice())?;
+    for own in all {
+        add_sorted(alloc, own, findings)?;
+    }
+    Ok(())
+}
+
+/// Adds what was found in a grammar, in the order of the places.
+fn add_sorted(alloc: Global, own: Findings, findings: &mut Findings) -> Result<(), AssetsError> {
+    let mut found = own.found;
+    found
+        .as_mut_slice()
+        .sort_by_key(alloc, |finding| finding.place)?;
+    for finding in found {
+        findings.found.push(finding)?;
     }
     Ok(())
 }

@@ -7,11 +7,11 @@ ghost use Rattle.syntect_grammar_limits.specs.syntect_grammar_loader.Loading.{lo
 ghost use Rattle.vulsangi_check.specs.Faults.{IsFaultOf};
 
 use crate::check::{check_grammars, read_grammar};
+use crate::vulsangi_grammar::findings::Findings;
+use crate::vulsangi_grammar::syntect::assets::AssetsError;
+use crate::vulsangi_grammar::syntect::parsing::{LoadWithinError, ScopeRepository};
 use std::alloc::Global;
 use std::slice;
-use vulsangi_grammar::findings::Findings;
-use vulsangi_grammar::syntect::assets::AssetsError;
-use vulsangi_grammar::syntect::parsing::{LoadWithinError, ScopeRepository};
 
 /// What is found in a grammar by itself.
 #[derive(Drop)]

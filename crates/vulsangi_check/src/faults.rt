@@ -3,18 +3,18 @@
 //! A refusal doesn't say where it comes from. So the parts of the grammar are loaded by themselves,
 //! each in a small grammar, and the first one that is refused is told.
 use crate::variables::{add_uses, variable};
-use std::alloc::{AllocError, Global};
-use vulsangi_grammar::findings::{Findings, Lines};
-use vulsangi_grammar::grammar::{Grammar, Item, steps_and};
-use vulsangi_grammar::place::{Place, Step, place_of};
-use vulsangi_grammar::rules::NOT_LOADED;
-use vulsangi_grammar::scan::closers_of;
-use vulsangi_grammar::syntect::assets::AssetsError;
-use vulsangi_grammar::syntect::parsing::{
+use crate::vulsangi_grammar::findings::{Findings, Lines};
+use crate::vulsangi_grammar::grammar::{Grammar, Item, steps_and};
+use crate::vulsangi_grammar::place::{Place, Step, place_of};
+use crate::vulsangi_grammar::rules::NOT_LOADED;
+use crate::vulsangi_grammar::scan::closers_of;
+use crate::vulsangi_grammar::syntect::assets::AssetsError;
+use crate::vulsangi_grammar::syntect::parsing::{
     LimitReached, Limits, LoadWithinError, ParseSyntaxError, PatternPlace, Regex, ScopeRepository,
     load_from_str_within,
 };
-use vulsangi_grammar::syntect_yaml::read::refused_at;
+use crate::vulsangi_grammar::syntect_yaml::read::refused_at;
+use std::alloc::{AllocError, Global};
 
 /// Patterns up to this length are gone through for the place at which they can't be read.
 const MOST_READ: usize = 1000;
@@ -80,26 +80,6 @@ fn read_up_to(alloc: Global, text: &str) -> Result<usize, AllocError> {
     Ok(0)
 }
 
-/// The place of a byte of a text that stands at or after a place in its line.
-fn place_in_text(lines: &Lines<'_>, place: Place, text: &str, byte: usize) -> Place {
-    let line = match lines.lines.get(place.line.saturating_sub(1)) {
-        Some(line) => *line,
-        None => return place,
-    };
-    let Some((front, _)) = line.split_once(text) else {
-        return place;
-    };
-    let inner = text.get(..byte).unwrap_or("").chars().count();
-    Place {
-        line: place.line,
-        column: front
-            .chars()
-            .count()
-            .saturating_add(inner)
-            .saturating_add(1),
-    }
-}
-
 /// What is wrong with a pattern from a byte on.
 fn told_rest(alloc: Global, text: &str, byte: usize) -> Result<String, AllocError> {
     let rest = text.get(byte..).unwrap_or("");
@@ -129,7 +109,7 @@ fn add_pattern(
         return Ok(());
     }
     let byte = read_up_to(alloc, text)?;
-    let place = place_in_text(lines, place, text, byte);
+    let place = lines.place_in(place, text, byte);
     let message = told_rest(alloc, text, byte)?;
     findings.add_at(NOT_LOADED, lines, place, message)?;
     Ok(())

@@ -1,11 +1,11 @@
 //! Keys that mean nothing, and values that their keys don't want.
+use crate::vulsangi_grammar::findings::{Findings, Lines};
+use crate::vulsangi_grammar::grammar::{Grammar, Item};
+use crate::vulsangi_grammar::nearest::is_near;
+use crate::vulsangi_grammar::place::Step;
+use crate::vulsangi_grammar::rules::{NOT_HERE, OTHER_KIND, UNKNOWN_KEY};
+use crate::vulsangi_grammar::syntect_yaml::value::{Scalar, Yaml};
 use std::alloc::{AllocError, Global};
-use vulsangi_grammar::findings::{Findings, Lines};
-use vulsangi_grammar::grammar::{Grammar, Item};
-use vulsangi_grammar::nearest::is_near;
-use vulsangi_grammar::place::Step;
-use vulsangi_grammar::rules::{NOT_HERE, OTHER_KIND, UNKNOWN_KEY};
-use vulsangi_grammar::syntect_yaml::value::{Scalar, Yaml};
 
 /// What a key wants.
 #[derive(Clone, Copy, Debug, PartialEq, Eq)]
@@ -181,6 +181,36 @@ pub fn check_top(
     };
     for entry in yaml.as_map().unwrap_or(&[]) {
         check_entry(alloc, TOP, lines, &[], entry, findings)?;
+    }
+    for entry in grammar.entries("variables") {
+        let name = entry.0.as_str().unwrap_or("");
+        if entry.1.as_str().is_none() {
+            let message = format!(in alloc; "the variable `{name}` wants a text")?;
+            findings.add_key(OTHER_KIND, lines, &[Step::Key("variables")], name, message)?;
+        }
+    }
+    check_texts(alloc, grammar, lines, "file_extensions", findings)?;
+    check_texts(alloc, grammar, lines, "hidden_file_extensions", findings)
+}
+
+/// Adds the items of a list that are no texts.
+fn check_texts(
+    alloc: Global,
+    grammar: &Grammar,
+    lines: &Lines<'_>,
+    key: &str,
+    findings: &mut Findings,
+) -> Result<(), AllocError> {
+    let list = match grammar.get(key) {
+        Some(value) => value.as_list().unwrap_or(&[]),
+        None => return Ok(()),
+    };
+    for (number, one) in list.iter().enumerate() {
+        if one.as_str().is_none() {
+            let message = format!(in alloc; "`{key}` wants texts")?;
+            let steps = [Step::Key(key), Step::Item(number)];
+            findings.add(OTHER_KIND, lines, &steps, message)?;
+        }
     }
     Ok(())
 }

@@ -2,11 +2,12 @@
 #![tactic(auto)]
 
 pub mod check;
+mod clears;
 pub mod diagnose;
 mod faults;
 mod keys;
-mod patterns;
-mod references;
+mod names;
+mod proof;
 mod variables;
 
-pub use vulsangi_grammar;
+pub use vulsangi_contexts::vulsangi_patterns::vulsangi_grammar;

@@ -1,10 +1,12 @@
 //! Variables of grammars: those that aren't there, that nothing uses, and that go round.
+use crate::vulsangi_grammar::findings::{Findings, Lines};
+use crate::vulsangi_grammar::grammar::{Grammar, Item};
+use crate::vulsangi_grammar::place::Step;
+use crate::vulsangi_grammar::rules::{
+    NO_FIRST_LINE, NO_VARIABLE, UNUSED_VARIABLE, VARIABLE_CIRCLE,
+};
+use crate::vulsangi_grammar::syntect::parsing::Regex;
 use std::alloc::{AllocError, Global};
-use vulsangi_grammar::findings::{Findings, Lines};
-use vulsangi_grammar::grammar::{Grammar, Item};
-use vulsangi_grammar::place::Step;
-use vulsangi_grammar::rules::{NO_FIRST_LINE, NO_VARIABLE, UNUSED_VARIABLE, VARIABLE_CIRCLE};
-use vulsangi_grammar::syntect::parsing::Regex;
 
 /// Whether a text is the name of a variable.
 fn is_name(text: &str) -> bool {

@@ -41,6 +41,27 @@ impl<'t> Lines<'t> {
             lines: text.lines().collect(alloc)?,
         })
     }
+
+    /// The place of a byte of a text that stands at a place or after it in its line; the place itself
+    /// where the text doesn't stand there as it is.
+    pub fn place_in(&self, place: Place, text: &str, byte: usize) -> Place {
+        let line = match self.lines.get(place.line.saturating_sub(1)) {
+            Some(line) => *line,
+            None => return place,
+        };
+        let Some((front, _)) = line.split_once(text) else {
+            return place;
+        };
+        let inner = text.get(..byte).unwrap_or("").chars().count();
+        Place {
+            line: place.line,
+            column: front
+                .chars()
+                .count()
+                .saturating_add(inner)
+                .saturating_add(1),
+        }
+    }
 }
 
 impl Findings {

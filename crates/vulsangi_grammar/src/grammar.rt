@@ -32,7 +32,12 @@ pub struct Item<'y> {
     pub steps: Vec<Step<'y>>,
     /// What was loaded of it.
     pub pattern: Option<&'y Pattern>,
+    /// What was loaded of its list, with the name that loading gives it.
+    pub list: Option<Loaded<'y>>,
 }
+
+/// A context that was loaded, with its name.
+pub type Loaded<'y> = (&'y str, &'y Context);
 
 /// A list of items that wait.
 #[derive(Drop)]
@@ -40,7 +45,7 @@ struct Waiting<'y> {
     context: usize,
     list: &'y [Yaml],
     steps: Vec<Step<'y>>,
-    loaded: Option<&'y Context>,
+    loaded: Option<Loaded<'y>>,
 }
 
 impl Grammar {
@@ -112,14 +117,18 @@ fn opened(pattern: Option<&Pattern>) -> &[ContextReference] {
     }
 }
 
-/// The context of a reference to one without a name.
-fn inline_of<'y>(
+/// The context of a reference to one that has no name but the one that loading gives it.
+pub fn inline_of<'y>(
     grammar: &'y Grammar,
     reference: Option<&'y ContextReference>,
-) -> Option<&'y Context> {
-    match (&grammar.definition, reference) {
-        (Some(definition), Some(ContextReference::Inline(name))) => definition.contexts.get(name),
-        _ => None,
+) -> Option<Loaded<'y>> {
+    let (Some(definition), Some(ContextReference::Inline(name))) = (&grammar.definition, reference)
+    else {
+        return None;
+    };
+    match definition.contexts.get(name) {
+        Some(context) => Some((name.as_str(), context)),
+        None => None,
     }
 }
 
@@ -209,7 +218,7 @@ fn add_items<'y>(
             continue;
         }
         let pattern = match list.loaded {
-            Some(context) if is_pattern(map) => context.patterns.as_slice().get(patterns),
+            Some((_, context)) if is_pattern(map) => context.patterns.as_slice().get(patterns),
             _ => None,
         };
         if is_pattern(map) {
@@ -221,6 +230,7 @@ fn add_items<'y>(
             before: list.list.get(..number).unwrap_or(&[]),
             steps: steps_and(alloc, list.steps.as_slice(), Step::Item(number))?,
             pattern,
+            list: list.loaded,
         };
         add_opened(alloc, grammar, &item, "push", waiting)?;
         add_opened(alloc, grammar, &item, "set", waiting)?;
@@ -244,7 +254,10 @@ pub fn items_of<'y>(alloc: Global, grammar: &'y Grammar) -> Result<Vec<Item<'y>>
             context: number,
             list: entry.1.as_list().unwrap_or(&[]),
             steps,
-            loaded: grammar.loaded(alloc, name)?,
+            loaded: match grammar.loaded(alloc, name)? {
+                Some(context) => Some((name, context)),
+                None => None,
+            },
         })?;
     }
     let mut items = Vec::new(alloc);

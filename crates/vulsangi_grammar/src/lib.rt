@@ -4,7 +4,6 @@
 
 pub mod findings;
 pub mod grammar;
-pub mod names;
 pub mod nearest;
 pub mod place;
 pub mod report;

@@ -102,6 +102,7 @@ pub const OTHER_KIND: Rule = Rule {
 
     meta_include_prototype: 'no'     # wants true or false
     file_extensions: note            # wants a list: [note]
+    variables: {count: 3}            # wants a text: '3'
     pop: 2                           # one context is left, whatever stands there
     captures: {name: keyword.x}      # wants numbers of groups",
 };
@@ -179,11 +180,22 @@ pub const SAME_AGAIN: Rule = Rule {
     number: "V111",
     grade: Grade::Warning,
     title: "a pattern before it always wins",
-    text: "Of the patterns that match at a place the first one wins, and this context has the same one \
-earlier, or one that is its front. So this one never matches, and what it says is never done.
+    text: "Of the patterns that match at a place the first one wins. What this context asks earlier, by \
+itself, by includes and by the prototype, takes each place where this pattern, or all that this \
+include brings, can begin: the same pattern, one that is its front, or ones that match wherever \
+one of certain characters stands. So this never matches, and what it says is never done. Put it \
+before those.
 
     - match: 'let'
-    - match: 'lets'                  # put it before `let`, or write '\\blet\\b'",
+    - match: 'lets'                  # put it before `let`, or write '\\blet\\b'
+    - match: '[=<>]'
+    - match: '==|<='                 # put it before `[=<>]`
+
+A match that reads nothing counts as one that takes its place where it opens a context, or where \
+it leaves one that matches which read something alone open. Told is what holds in every context \
+that includes this one; where as many contexts are open as may be, no match opens a further one. \
+Not told is what takes more than the next character to see, as that `\\bif\\b` takes what \
+`\\bif(?= x)` would begin with.",
 };
 
 pub const DOES_NOTHING: Rule = Rule {
@@ -213,6 +225,46 @@ character farther.
         push: main",
 };
 
+pub const NEVER_MATCHES: Rule = Rule {
+    number: "V114",
+    grade: Grade::Warning,
+    title: "nothing matches this pattern",
+    text: "Two parts of the pattern can't both hold, whatever the text: what one of them reads or wants \
+beside it isn't what the other one wants there. An anchor stands where it can't hold, a lookahead \
+wants another character than the one that is read next, or a lookbehind another one than was read.
+
+    - match: 'a^b'                   # no line begins after `a`
+    - match: '(?=[a-z])\\d+'         # no digit is a letter
+    - match: 'foo\\b[a-z]'          # no word ends where it goes on
+    - match: '(?<=x)^'               # nothing stands before a line
+
+Told is what the characters at both sides of one place say. `(?!)` by itself is taken as meant, and \
+patterns of which a part is put in when their context is opened are not looked at.",
+};
+
+pub const NO_LINE_BEGINS: Rule = Rule {
+    number: "V115",
+    grade: Grade::Warning,
+    title: "no line begins where this is asked",
+    text: "The pattern begins with `^` or `\\A`, and no context that asks it is ever asked where a line \
+begins: each match that opens the context reads a part of a line, the context is always left \
+where the line ends, and what it opens gives back to it in the midst of a line. Leave the anchor \
+out, or let the context stay open over lines.
+
+    main:
+      - match: '#if'
+        push: condition
+    condition:
+      - match: '$'
+        pop: true
+      - match: '^\\s*defined'       # the line began before `#if`
+        scope: keyword.x
+
+Told of what the grammar itself does. A context isn't told of that another grammar names, or that \
+patterns of a `with_prototype` are asked in. Other places at which a pattern can't begin, as one \
+that looks behind for what never stands before its context, are not looked for.",
+};
+
 pub const COSTLY: Rule = Rule {
     number: "V201",
     grade: Grade::Note,
@@ -220,7 +272,11 @@ pub const COSTLY: Rule = Rule {
     text: "Most patterns are searched in time proportional to the line. This one isn't: it refers back \
 to a group (`\\1`), holds a group in a lookbehind, looks ahead with groups in a loop, or is too large \
 with its counted loops written out. There are lines that make it costly; within limits such a line \
-is shown plain. docs/BOUND.md says more.",
+is shown plain. docs/BOUND.md says more.
+
+The message names the part, at which the caret points where the pattern is written in one line, and \
+a text that costs: of some, made of the characters that the pattern has, the one of which twice as \
+much takes more than three times as many steps. Where there is none among those, that is told.",
 };
 
 pub const ODD_SCOPE: Rule = Rule {
@@ -256,8 +312,9 @@ pub const LEAVES_MAIN: Rule = Rule {
     number: "V205",
     grade: Grade::Note,
     title: "`main` is left",
-    text: "A pattern of `main` itself has `pop`. In a file of this grammar nothing is below `main`, and \
-reading begins in it anew. It is right where other grammars open this one and expect it to leave.",
+    text: "A pattern of `main`, or one that it includes, has `pop`. In a file of this grammar nothing is \
+below `main` but `__start`, which opens it again, and reading begins in it anew. It is right where \
+other grammars open this one and expect it to leave.",
 };
 
 pub const CLEARS: Rule = Rule {
@@ -278,6 +335,41 @@ colour of what it stands in. Scopes that begin with meta, source, text or punctu
 without a rule, and are not told. Name the folder of your themes together with the grammars:
 
     vulsangi check mine themes",
+};
+
+pub const OUT_OF_ORDER: Rule = Rule {
+    number: "V208",
+    grade: Grade::Note,
+    title: "scopes are cleared out of order",
+    text: "A `set` leaves a context that has `clear_scopes`, or a context that has it is opened after the \
+first one of a `push`, a `set` or an `embed`. Then scopes come back in another order than that in \
+which they were taken away, and what the editors show there differs.
+
+    - match: x
+      push: [one, clears]            # push: clears
+
+The proof that each colour is that of the theme's best rule doesn't speak of lines in which such a \
+match is picked.",
+};
+
+pub const OUT_OF_PROOF: Rule = Rule {
+    number: "V209",
+    grade: Grade::Note,
+    title: "lines may be outside of the proof of colours",
+    text: "The proof that each colour is that of the theme's best rule is about lines in which scopes are \
+cleared in order. In this grammar, or in one that it names, perhaps by way of others, a match \
+clears them out of order, as V208 tells there; or a `with_prototype` has a `set`, which may leave a \
+context that clears scopes, where one of these grammars has such. All lines of grammars of which \
+this isn't told are in the proof, if all grammars that they name are looked through.",
+};
+
+pub const MANY_BYTES: Rule = Rule {
+    number: "V210",
+    grade: Grade::Note,
+    title: "large patterns together",
+    text: "With their variables put in, the patterns of the grammar have more than 65536 bytes together. \
+They are kept as long as the grammar is, and compiled when they are first searched. Where many \
+patterns use a long variable, a context of their own, which they open, may have it once.",
 };
 
 pub const THEME_KEY: Rule = Rule {
@@ -336,6 +428,8 @@ pub const RULES: &[Rule] = &[
     SAME_AGAIN,
     DOES_NOTHING,
     GOES_ROUND,
+    NEVER_MATCHES,
+    NO_LINE_BEGINS,
     COSTLY,
     ODD_SCOPE,
     LONG_PATTERN,
@@ -343,6 +437,9 @@ pub const RULES: &[Rule] = &[
     LEAVES_MAIN,
     CLEARS,
     NO_COLOUR,
+    OUT_OF_ORDER,
+    OUT_OF_PROOF,
+    MANY_BYTES,
     THEME_KEY,
     NOT_A_COLOUR,
     NOT_A_FONT,

@@ -70,3 +70,15 @@ pub fn closers_of(alloc: Global, text: &str) -> Result<String, AllocError> {
     }
     Ok(closers)
 }
+
+/// The first bracket of a text with what stands in it, as far as it is closed.
+pub fn first_group(text: &str) -> &str {
+    let mut scan = scanned("");
+    for (place, c) in text.char_indices() {
+        scan = scan.after(c);
+        if scan.is_closed {
+            return text.get(..place.saturating_add(1)).unwrap_or(text);
+        }
+    }
+    text
+}

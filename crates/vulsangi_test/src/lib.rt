@@ -8,4 +8,6 @@ mod places;
 #[cfg(test)]
 mod planted;
 #[cfg(test)]
+mod planted_contexts;
+#[cfg(test)]
 mod planted_rows;

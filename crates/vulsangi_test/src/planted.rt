@@ -1,4 +1,5 @@
 //! What is found in grammars, and where.
+use crate::planted_contexts::ROWS as CONTEXTS;
 use crate::planted_rows::{ROWS, THEMES, Told};
 use std::alloc::{AllocError, Global};
 use vulsangi_check::check::{check_grammars, read_grammar};
@@ -8,14 +9,16 @@ use vulsangi_check::vulsangi_grammar::syntect::assets::AssetsError;
 use vulsangi_check::vulsangi_grammar::syntect::parsing::ScopeRepository;
 use vulsangi_check::vulsangi_grammar::themes::check_theme;
 
-/// What is found in a grammar.
-fn found_in(alloc: Global, text: &str) -> Result<Findings, AssetsError> {
+/// What is found in grammars, each with its file's name.
+fn found_in(alloc: Global, texts: &[(&str, &str)]) -> Result<Findings, AssetsError> {
     let mut repository = ScopeRepository::new(alloc);
-    let text = String::from_str(alloc, text)?;
-    let (grammar, fault) = read_grammar(alloc, "A.sublime-syntax", text, &mut repository)?;
     let (mut grammars, mut faults) = (Vec::new(alloc), Vec::new(alloc));
-    grammars.push(grammar)?;
-    faults.push(fault)?;
+    for (path, text) in texts {
+        let text = String::from_str(alloc, *text)?;
+        let (grammar, fault) = read_grammar(alloc, *path, text, &mut repository)?;
+        grammars.push(grammar)?;
+        faults.push(fault)?;
+    }
     let mut findings = Findings::new(alloc);
     check_grammars(
         alloc,
@@ -50,10 +53,66 @@ fn is_as_told(findings: &Findings, told: &[Told]) -> bool {
 #[test]
 fn each_fault_is_found_at_its_place(rt: HostRuntime) {
     for (number, (text, told)) in ROWS.iter().enumerate() {
-        match found_in(rt.alloc(), *text) {
+        match found_in(rt.alloc(), &[("A.sublime-syntax", *text)]) {
             Ok(findings) => assert!(rt; is_as_told(&findings, *told), "row {number}"),
             Err(_) => assert!(rt; false, "row {number}: out of memory"),
         }
+    }
+}
+
+#[test]
+fn each_fault_of_contexts_is_found_at_its_place(rt: HostRuntime) {
+    for (number, (text, told)) in CONTEXTS.iter().enumerate() {
+        match found_in(rt.alloc(), &[("A.sublime-syntax", *text)]) {
+            Ok(findings) => assert!(rt; is_as_told(&findings, *told), "row {number}"),
+            Err(_) => assert!(rt; false, "row {number}: out of memory"),
+        }
+    }
+}
+
+/// A grammar that names one which clears out of order, that one, and one that stands by itself.
+const NAMING: &[(&str, &str)] = &[
+    (
+        "A.sublime-syntax",
+        "scope: source.a
+contexts:
+  main:
+    - match: a
+      push: scope:source.b
+",
+    ),
+    (
+        "B.sublime-syntax",
+        "scope: source.b
+contexts:
+  main:
+    - match: b
+      push:
+        - clear_scopes: 1
+        - match: c
+          set: main
+",
+    ),
+    (
+        "C.sublime-syntax",
+        "scope: source.c
+contexts:
+  main: []
+",
+    ),
+];
+
+#[test]
+fn grammars_are_out_of_the_proof_by_those_that_they_name(rt: HostRuntime) {
+    let told: &[Told] = &[
+        ("V209", 1, 1),
+        ("V209", 1, 1),
+        ("V206", 6, 11),
+        ("V208", 8, 11),
+    ];
+    match found_in(rt.alloc(), NAMING) {
+        Ok(findings) => assert!(rt; is_as_told(&findings, told)),
+        Err(_) => assert!(rt; false, "out of memory"),
     }
 }
 

@@ -207,6 +207,20 @@ contexts:
 ",
         &[("V103", 3, 1), ("V103", 4, 1), ("V103", 8, 7)],
     ),
+    // numbers where texts are wanted
+    (
+        "name: A
+scope: source.a
+file_extensions: [a, 1]
+variables:
+  count: 3
+  number: '3'
+contexts:
+  main:
+    - match: 'x{{count}}{{number}}'
+",
+        &[("V103", 3, 1), ("V103", 5, 3)],
+    ),
     // variables
     (
         "name: A
@@ -218,7 +232,7 @@ variables:
   right: 'r{{left}}'
 contexts:
   main:
-    - match: '{{idnet}}'
+    - match: 'x{{idnet}}'
     - match: '{{ident}}{{left}}'
 ",
         &[
@@ -250,8 +264,15 @@ contexts:
         1: keyword.a
         2: keyword.b
         3: keyword.c
+    - match: '<'
+      embed: scope:source.a#inner
+      escape: '(>)'
+      escape_captures:
+        1: keyword.d
+        2: keyword.e
+  inner: []
 ",
-        &[("V108", 6, 7), ("V108", 6, 7)],
+        &[("V108", 6, 7), ("V108", 6, 7), ("V108", 14, 7)],
     ),
     // references
     (
@@ -310,15 +331,17 @@ contexts:
   main:
     - match: '(?=\\))'
       scope: keyword.a
-    - match: '(?=a)b'
+    - match: '(?=a)\\w'
     - match: '(?=[(]b)'
       push: other
     - match: '$'
+    - match: '\\b(?=d)(?<!e)'
+    - match: 'f?'
   other:
     - match: '(?!x(y)z)'
       pop: true
 ",
-        &[("V112", 5, 7), ("V112", 10, 7)],
+        &[("V112", 5, 7), ("V112", 10, 7), ("V112", 11, 7)],
     ),
     // round and round
     (
@@ -344,8 +367,10 @@ scope: source.a
 contexts:
   main:
     - match: '(a|b)\\1'
+    - match: 'y(?<=(y))z'
+    - match: '(?<=u)v'
 ",
-        &[("V201", 5, 7)],
+        &[("V201", 5, 20), ("V201", 6, 16)],
     ),
     // scopes
     (

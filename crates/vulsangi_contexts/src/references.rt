@@ -1,10 +1,10 @@
 //! References of grammars: those that lead nowhere, and contexts that none leads to.
 use std::alloc::{AllocError, Global};
-use vulsangi_grammar::findings::{Findings, Lines};
-use vulsangi_grammar::grammar::{Grammar, Item, steps_and};
-use vulsangi_grammar::place::Step;
-use vulsangi_grammar::rules::{LEADS_NOWHERE, LEAVES_MAIN, MANY_PATTERNS, NOT_REACHED};
-use vulsangi_grammar::syntect_yaml::value::Yaml;
+use vulsangi_patterns::vulsangi_grammar::findings::{Findings, Lines};
+use vulsangi_patterns::vulsangi_grammar::grammar::{Grammar, Item, steps_and};
+use vulsangi_patterns::vulsangi_grammar::place::Step;
+use vulsangi_patterns::vulsangi_grammar::rules::{LEADS_NOWHERE, MANY_PATTERNS, NOT_REACHED};
+use vulsangi_patterns::vulsangi_grammar::syntect_yaml::value::Yaml;
 
 /// A reference of an item.
 #[derive(Drop)]
@@ -217,7 +217,7 @@ pub fn add_foreign<'y>(
 }
 
 /// Whether a grammar that is looked through names a context of this one as another's.
-fn is_named_elsewhere(grammar: &Grammar, foreign: &[&str], context: &str) -> bool {
+pub fn is_named_elsewhere(grammar: &Grammar, foreign: &[&str], context: &str) -> bool {
     for name in foreign {
         if let Some((front, named)) = name.split_once('#') {
             if named == context && is_named(grammar, front) {
@@ -362,20 +362,23 @@ fn check_size(
     Ok(())
 }
 
-/// Adds the patterns of `main` itself that leave it.
-fn check_main(
+/// Adds the grammars that items name, of those that are looked through.
+pub fn mark_named(
     alloc: Global,
-    grammar: &Grammar,
-    lines: &Lines<'_>,
     items: &[Item<'_>],
-    findings: &mut Findings,
+    grammars: &[Grammar],
+    marks: &mut [bool],
 ) -> Result<(), AllocError> {
-    let main = number_of(grammar, "main");
-    for item in items {
-        let is_own = item.steps.len() == 3 && main == Some(item.context);
-        if is_own && item.map.get("pop").is_some() {
-            let message = format!(in alloc; "`main` is left")?;
-            findings.add_key(LEAVES_MAIN, lines, item.steps.as_slice(), "pop", message)?;
+    for reference in references_of(alloc, items)?.as_slice() {
+        let (front, _) = reference
+            .name
+            .split_once('#')
+            .unwrap_or((reference.name, ""));
+        if !is_foreign(reference.name) {
+            continue;
+        }
+        for (grammar, mark) in grammars.iter().zip(marks.iter_mut()) {
+            *mark |= is_named(grammar, front);
         }
     }
     Ok(())
@@ -399,6 +402,5 @@ pub fn check<'y>(
     if grammar.definition.is_some() {
         check_reached(alloc, grammar, foreign, lines, ways.as_slice(), findings)?;
     }
-    check_size(alloc, grammar, lines, ways.as_slice(), findings)?;
-    check_main(alloc, grammar, lines, items, findings)
+    check_size(alloc, grammar, lines, ways.as_slice(), findings)
 }

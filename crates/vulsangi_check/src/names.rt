@@ -1,13 +1,13 @@
 //! Scopes outside the convention, and those that no theme knows.
-use crate::findings::{Findings, Lines};
-use crate::grammar::Item;
-use crate::nearest::nearest;
-use crate::rules::{NO_COLOUR, ODD_SCOPE};
+use crate::vulsangi_grammar::findings::{Findings, Lines};
+use crate::vulsangi_grammar::grammar::Item;
+use crate::vulsangi_grammar::nearest::nearest;
+use crate::vulsangi_grammar::rules::{NO_COLOUR, ODD_SCOPE};
+use crate::vulsangi_grammar::syntect::Error;
+use crate::vulsangi_grammar::syntect::highlighting::Theme;
+use crate::vulsangi_grammar::syntect::parsing::ScopeRepository;
+use crate::vulsangi_grammar::syntect_yaml::value::Yaml;
 use std::alloc::{AllocError, Global};
-use syntect::Error;
-use syntect::highlighting::Theme;
-use syntect::parsing::ScopeRepository;
-use syntect_yaml::value::Yaml;
 
 /// What scopes begin with, by the convention.
 const FRONTS: &[&str] = &[
