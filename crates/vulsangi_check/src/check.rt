@@ -94,8 +94,8 @@ struct Around<'g> {
     known: &'g [String],
 }
 
-/// Adds what is found in a grammar, one of those that are looked through. Answers whether patterns of
-/// a `with_prototype` may leave a context by a `set`.
+/// Adds what is found in a grammar, one of those that are looked through. Answers whether
+/// patterns of a `with_prototype` may leave a context by a `set`.
 fn check_grammar(
     alloc: Global,
     (number, grammar): (usize, &Grammar),
@@ -260,8 +260,8 @@ impl Gathered {
         }
     }
 
-    /// Adds a file, if it is a grammar's or a theme's. One that is named itself is a theme's also where
-    /// it ends with `.json` and stands in another folder.
+    /// Adds a file, if it is a grammar's or a theme's. One that is named itself is a theme's also
+    /// where it ends with `.json` and stands in another folder.
     fn add_file(
         &mut self,
         rt: &(impl AllocGlobal + Files),

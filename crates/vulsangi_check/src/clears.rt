@@ -264,8 +264,8 @@ fn check_entry(
     Ok(())
 }
 
-/// Adds the contexts of a grammar that clear scopes, and the matches that do so out of order. Answers
-/// whether patterns of a `with_prototype` may leave a context by a `set`.
+/// Adds the contexts of a grammar that clear scopes, and the matches that do so out of order.
+/// Answers whether patterns of a `with_prototype` may leave a context by a `set`.
 pub fn check(
     alloc: Global,
     all: (usize, &[Grammar]),

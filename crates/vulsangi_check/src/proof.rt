@@ -1,5 +1,5 @@
-//! Which grammars are in the proof of colours: those that clear scopes in order alone, with all that
-//! they name.
+//! Which grammars are in the proof of colours: those that clear scopes in order alone, with all
+//! that they name.
 use crate::vulsangi_grammar::findings::{Findings, Lines};
 use crate::vulsangi_grammar::grammar::{Grammar, items_of};
 use crate::vulsangi_grammar::place::Step;
@@ -84,8 +84,8 @@ fn clearing(alloc: Global, found: &[Findings]) -> Result<Clearing, AllocError> {
     Ok(Clearing { out, clears })
 }
 
-/// Why not all lines of a grammar are shown to be in the proof, if they aren't: by which of those that
-/// it names, or by a `with_prototype` of one, where another clears.
+/// Why not all lines of a grammar are shown to be in the proof, if they aren't: by which of those
+/// that it names, or by a `with_prototype` of one, where another clears.
 fn why(
     alloc: Global,
     grammars: &[Grammar],
@@ -114,8 +114,8 @@ fn grammar_of(grammars: &[Grammar], number: Option<usize>) -> Option<&Grammar> {
     grammars.get(number?)
 }
 
-/// Adds the grammars of which not all lines are shown to be in the proof, to what was found in each.
-/// It is told of each whether a `with_prototype` of it has a `set`.
+/// Adds the grammars of which not all lines are shown to be in the proof, to what was found in
+/// each. It is told of each whether a `with_prototype` of it has a `set`.
 pub fn check(
     alloc: Global,
     grammars: &[Grammar],

@@ -157,7 +157,8 @@ fn entry_of(
     }))
 }
 
-/// The number of the list that an item stands in, which is that of the item before it or a later one.
+/// The number of the list that an item stands in, which is that of the item before it or a later
+/// one.
 fn list_from(lists: &[List<'_>], item: &Item<'_>, from: usize) -> Option<usize> {
     let (name, _) = item.list?;
     let later = lists.get(from..).unwrap_or(&[]);
@@ -191,8 +192,8 @@ pub fn lists_of<'y>(
     Ok(lists)
 }
 
-/// Marks the lists that some lead to, by includes alone or by all ways; answers whether there are new
-/// ones.
+/// Marks the lists that some lead to, by includes alone or by all ways; answers whether there are
+/// new ones.
 fn reach_once(lists: &[List<'_>], by_includes: bool, reached: &mut [bool]) -> bool {
     let mut is_new = false;
     for (number, list) in lists.iter().enumerate() {

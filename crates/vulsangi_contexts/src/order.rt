@@ -13,7 +13,8 @@ use vulsangi_patterns::vulsangi_grammar::syntect::parsing::syntax_definition::Pa
 struct Taken {
     /// Always.
     always: Places,
-    /// Where the context wasn't opened just there: else a match that reads nothing doesn't leave it.
+    /// Where the context wasn't opened just there: else a match that reads nothing doesn't leave
+    /// it.
     later: Places,
 }
 
@@ -210,8 +211,8 @@ fn taken_first(known: &Known, number: usize) -> Taken {
         .unwrap_or(nothing())
 }
 
-/// Whether one entry matches wherever a later one does, by their texts: they are the same, or the one
-/// is the front of the other.
+/// Whether one entry matches wherever a later one does, by their texts: they are the same, or the
+/// one is the front of the other.
 fn is_front(items: &[Item<'_>], front: &Entry, later: &Entry) -> bool {
     let (Some(a), Some(b)) = (&front.known, &later.known) else {
         return false;

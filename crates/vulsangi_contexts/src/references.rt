@@ -179,7 +179,8 @@ fn number_of(grammar: &Grammar, name: &str) -> Option<usize> {
     None
 }
 
-/// The ways from context to context: the numbers of both, and whether the first includes the second.
+/// The ways from context to context: the numbers of both, and whether the first includes the
+/// second.
 fn ways_of(
     alloc: Global,
     grammar: &Grammar,

@@ -174,8 +174,8 @@ fn try_text(
     }))
 }
 
-/// The text that costs most, of those that are tried: a character of the pattern again and again, and
-/// two of them in turn. None, if none of them costs more than its length.
+/// The text that costs most, of those that are tried: a character of the pattern again and again,
+/// and two of them in turn. None, if none of them costs more than its length.
 pub fn costly_text(
     alloc: Global,
     pattern: &Regex,

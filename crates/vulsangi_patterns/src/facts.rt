@@ -1,5 +1,6 @@
 //! What is known of a pattern's matches: where they can begin, where they surely begin, and what
-//! stands around them. It is found part by part; each node of a pattern's table comes after its parts.
+//! stands around them. It is found part by part; each node of a pattern's table comes after its
+//! parts.
 use crate::places::{
     NEWLINE, Places, WORD, anywhere, both, either, is_all, is_none, is_within, nowhere, of_ascii,
     others, sure_of_class,
@@ -12,8 +13,8 @@ use syntect_regex::below::pattern_table::starts::{
     places_of_char, places_of_class, places_of_letter,
 };
 
-/// What is known of a part's matches. Of what stands before a place, the end stands for the begin of
-/// the text.
+/// What is known of a part's matches. Of what stands before a place, the end stands for the
+/// begin of the text.
 #[derive(Clone, Copy)]
 pub struct Facts {
     /// It has no match.
@@ -326,7 +327,7 @@ fn of_letters(fold: bool, first: u8, letters: &[u8], rest: Facts) -> Facts {
     in_sequence(&of_letter(fold, first), &found)
 }
 
-/// What is known of a part that comes after an edge of a word, or after none: what can stand before.
+/// What can stand before a part that comes after an edge of a word, or where none is.
 fn after_edge(is_edge: bool, b: &Facts) -> Places {
     let word = of_ascii(WORD);
     let wide = Places {

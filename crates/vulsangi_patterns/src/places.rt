@@ -99,8 +99,8 @@ pub fn sure_of_class(class: &Class, is_plain: bool) -> Places {
     }
 }
 
-/// Whether a pattern's text names no characters beyond ASCII, but by what words, digits, white space
-/// and the like are.
+/// Whether a pattern's text names no characters beyond ASCII, but by what words, digits, white
+/// space and the like are.
 pub fn is_plain(text: &str) -> bool {
     let named: &[&str] = &["\\x", "\\u", "\\U", "\\p", "\\P", "\\o"];
     text.is_ascii() && !named.iter().any(|front| text.contains(*front))
