@@ -98,20 +98,24 @@ pub struct Costly {
     pub half: usize,
 }
 
+/// How many steps the search of a text takes.
+fn steps_in(alloc: Global, pattern: &Regex, text: &str) -> Result<usize, AllocError> {
+    let mut meter = Meter::within(MOST_STEPS);
+    let mut region = Region::new(alloc);
+    match pattern.search_by_meter(text, 0, text.len(), &mut region, &mut meter) {
+        Ok(_) | Err(Stop::Spent) => {}
+        Err(Stop::Memory) => return Err(AllocError),
+    }
+    Ok(MOST_STEPS.saturating_sub(meter.left().unwrap_or(0)))
+}
+
 /// How many steps the search of a text takes that is so many times the same.
 fn steps_of(alloc: Global, pattern: &Regex, unit: &str, times: usize) -> Result<usize, AllocError> {
     let mut text = String::new(alloc);
     for _ in 0..times {
         text.push_str(unit)?;
     }
-    let mut meter = Meter::within(MOST_STEPS);
-    let mut region = Region::new(alloc);
-    let end = text.len();
-    match pattern.search_by_meter(text.as_str(), 0, end, &mut region, &mut meter) {
-        Ok(_) | Err(Stop::Spent) => {}
-        Err(Stop::Memory) => return Err(AllocError),
-    }
-    Ok(MOST_STEPS.saturating_sub(meter.left().unwrap_or(0)))
+    steps_in(alloc, pattern, text.as_str())
 }
 
 /// So many characters are tried.
