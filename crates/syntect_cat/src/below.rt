@@ -4,7 +4,7 @@ pub use syntect_assets::below::{easy, grammar_limits, parsing, scope, theme, the
 
 /// Of `syntect_base`.
 pub mod base {
-    pub use syntect_assets::below::base::{limits, tree};
+    pub use syntect_assets::below::base::{limits, lines, tree};
 }
 
 /// Of `syntect_assets`.

@@ -23,10 +23,11 @@ pub struct FailingLines {
 impl ReadLines for FailingLines {
     ghost use Rattle.std.specs.Prelude.{◌≡◌, None};
     ghost use Rattle.std.specs.IoError.{error_kind};
+    ghost use Rattle.std.specs.declared.io.ErrorKind.TheVariants.{BrokenPipe};
 
     ghost ahead = { λ lines. None };
 
-    ghost failed = { λ lines e. error_kind e ≡ ErrorKind.BrokenPipe };
+    ghost failed = { λ lines e. error_kind e ≡ BrokenPipe };
 
     fn read_next(&mut self, line: &mut Vec<u8>) -> io::Result<usize> {
         if self.left.is_empty() {
