@@ -2,8 +2,6 @@
 use Rattle.std.specs.Prelude.{◌≡◌, ◌<◌, ℕ, List, [], length, slice_index_or}
 use Rattle.syntect_reading_choice.specs.declared.level.Level.{Level}
 
--- ---- What invariants alone rest on ----
-
 -- so many of the lowest levels have no prototypes, as far as there are so many
 abbrev pub AreBare : ℕ → List Level → Type 0
 AreBare count levels = (k : ℕ) (d : Level) → k < count → k < length levels

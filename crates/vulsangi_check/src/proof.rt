@@ -75,7 +75,7 @@ struct Clearing {
 }
 
 /// What was found of that in each grammar.
-fn clearing(alloc: Global, found: &[Findings]) -> Result<Clearing, AllocError> {
+fn marks_of(alloc: Global, found: &[Findings]) -> Result<Clearing, AllocError> {
     let (mut out, mut clears) = (Vec::new(alloc), Vec::new(alloc));
     for findings in found {
         out.push(has(findings, OUT_OF_ORDER))?;
@@ -122,7 +122,7 @@ pub fn check(
     bringing: &[bool],
     found: &mut [Findings],
 ) -> Result<(), AllocError> {
-    let clearing = clearing(alloc, &*found)?;
+    let clearing = marks_of(alloc, &*found)?;
     if !clearing.clears.as_slice().contains(&true) {
         return Ok(());
     }
