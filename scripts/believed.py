@@ -61,6 +61,12 @@ ENTRIES = [
         ("Assets", "show_text"),
         ("Assets", "show_file"),
     ]),
+    ("One syntax and what it reaches", [
+        ("ShelfBuilder", "add_plain_text_syntax"),
+        ("ShelfBuilder", "add_from_folder"),
+        ("Shelf", "heads"),
+        ("Shelf", "set_for"),
+    ]),
     ("Parts of a document", [
         ("", "numbered_text"),
         ("", "classed_text"),
@@ -307,7 +313,7 @@ def library():
     text = text_of(TOP / "crates.txt")
     uses = {it[1]: it[2].split() for it in re.finditer(r"^(\w+)(?: \S+)*:(.*)$", text, flags=re.M)}
     left = [crate_of(entry(*it).file) for _, calls in ENTRIES for it in calls]
-    left += [it for it in crates() if it.endswith("laws")]
+    left += [it for it in crates() if it.endswith(("laws", "closed"))]
     found = set()
     while left:
         name = left.pop()
