@@ -50,5 +50,5 @@ RefusesReading Told limits set path r = ⊥
 abbrev pub TellsFile : Error → AssetsError → Type 0
 TellsFile e (refusal.NotRead told) = (fault : IoError) × (e ≡ error.Io fault)
 TellsFile e (refusal.NotShown why) = (e ≡ why) × IsNoReadFault e
-TellsFile e refusal.Memory = Unit {0}
+TellsFile e refusal.Memory = e ≡ error.Memory
 TellsFile e r = ⊥

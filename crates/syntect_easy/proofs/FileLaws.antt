@@ -111,9 +111,6 @@ none_told set path line e f = f ∙ ap (λ found. option_or found (found_by_firs
 pub plain_syntax : (set : SyntaxSet) (path line : List ℕ) (syntax : SyntaxReference) → IsUtf8 line → None ≡ found_by_file_name set path → None ≡ found_by_first_line set line → Some syntax ≡ found_plain_text set → IsSyntaxFor set path syntax
 plain_syntax set path line syntax u n e f = is_syntax set path line syntax u (ap (λ found. option_or found (found_plain_text set)) (sym (none_told set path line n e)) ∙ sym f)
 
-pub no_syntax : (Faults : IoError → Type 0) (set : SyntaxSet) (path line : List ℕ) → IsUtf8 line → None ≡ found_by_file_name set path → None ≡ found_by_first_line set line → None ≡ found_plain_text set → HasNoLines Faults set path error.NoSyntax
-no_syntax Faults set path line u n e f = (line, u, ap (λ found. option_or found (found_plain_text set)) (sym (none_told set path line n e)) ∙ sym f)
-
 -- ---- what the first line that is left tells ----
 
 -- the line is that of what the reader gave
@@ -145,30 +142,6 @@ module _ (set : SyntaxSet) (path : List ℕ) (left : Option (List ℕ)) (syntax 
   told_by_none line u h a n e f = record { is_for = plain_syntax set path line syntax u n e f; front = h; asked = λ m. a }
 
 -- ---- no lines ----
-
-pub not_read : (Faults : IoError → Type 0) (set : SyntaxSet) (path : List ℕ) (e : Error) → IsReadFault Faults e → HasNoLines Faults set path e
-not_read Faults set path (error.Io e) n = n
-not_read Faults set path error.Memory n = tt
-not_read Faults set path (error.ParsingError e) n = absurd n
-not_read Faults set path (error.ScopeError e) n = absurd n
-not_read Faults set path (error.LoadingError e) n = absurd n
-not_read Faults set path (error.Fmt e) n = absurd n
-not_read Faults set path error.NoSyntax n = absurd n
-not_read Faults set path (error.ParseSyntax e) n = absurd n
-not_read Faults set path (error.ParseScope e) n = absurd n
-not_read Faults set path (error.Pattern e) n = absurd n
-
-pub no_start_for : (Faults : IoError → Type 0) (set : SyntaxSet) (path : List ℕ) (syntax : SyntaxReference) (e : Error) → IsSyntaxFor set path syntax → LacksStart syntax e → HasNoLines Faults set path e
-no_start_for Faults set path syntax (error.Io e) s l = absurd l
-no_start_for Faults set path syntax error.Memory s l = tt
-no_start_for Faults set path syntax (error.ParsingError e) s l = (syntax, s, l)
-no_start_for Faults set path syntax (error.ScopeError e) s l = absurd l
-no_start_for Faults set path syntax (error.LoadingError e) s l = absurd l
-no_start_for Faults set path syntax (error.Fmt e) s l = absurd l
-no_start_for Faults set path syntax error.NoSyntax s l = absurd l
-no_start_for Faults set path syntax (error.ParseSyntax e) s l = absurd l
-no_start_for Faults set path syntax (error.ParseScope e) s l = absurd l
-no_start_for Faults set path syntax (error.Pattern e) s l = absurd l
 
 -- the faults of a file that was opened are faults of the file
 pub faults_in : (Faults Others : IoError → Type 0) → ((e : IoError) → Faults e → Others e) → (set : SyntaxSet) (path : List ℕ) (e : Error) → HasNoLines Faults set path e → HasNoLines Others set path e
@@ -225,10 +198,6 @@ pub told_unlimited : (limits : Limits) (set : SyntaxSet) (path : List ℕ) (left
 told_unlimited limits set path left syntax None e h = h
 told_unlimited limits set path left syntax (Some l) e h = absurd (none_reached limits e h.limited)
 
-pub syntax_unlimited : (limits : Limits) (set : SyntaxSet) (path : List ℕ) (syntax : SyntaxReference) (o : Option FirstLineLimit) → limits ≡ unlimited → IsSyntaxWithin limits set path syntax o → IsSyntaxFor set path syntax
-syntax_unlimited limits set path syntax None e h = h
-syntax_unlimited limits set path syntax (Some l) e h = absurd (none_reached limits e h.limited)
-
 pub refused_unlimited : (Faults : IoError → Type 0) (limits : Limits) (set : SyntaxSet) (path : List ℕ) (e : Error) → limits ≡ unlimited → HasNoLinesWithin Faults limits set path e → HasNoLines Faults set path e
 refused_unlimited Faults limits set path e same (inl h) = h
 refused_unlimited Faults limits set path e same (inr h) = absurd (none_reached limits same h.limited)
@@ -236,10 +205,6 @@ refused_unlimited Faults limits set path e same (inr h) = absurd (none_reached l
 pub told_is_for : (limits : Limits) (set : SyntaxSet) (path : List ℕ) (left : Option (List ℕ)) (syntax : SyntaxReference) (o : Option FirstLineLimit) → IsToldWithin limits set path left syntax o → IsSyntaxWithin limits set path syntax o
 told_is_for limits set path left syntax None h = h.is_for
 told_is_for limits set path left syntax (Some l) h = h
-
-pub no_start_within : (Faults : IoError → Type 0) (limits : Limits) (set : SyntaxSet) (path : List ℕ) (syntax : SyntaxReference) (o : Option FirstLineLimit) (e : Error) → IsSyntaxWithin limits set path syntax o → LacksStart syntax e → HasNoLinesWithin Faults limits set path e
-no_start_within Faults limits set path syntax None e s l = inl (no_start_for Faults set path syntax e s l)
-no_start_within Faults limits set path syntax (Some x) e s l = inr (record { limited = s.limited; unnamed = s.unnamed; lacks = inr (syntax, s.plain, l) })
 
 pub faults_within : (Faults Others : IoError → Type 0) → ((e : IoError) → Faults e → Others e) → (limits : Limits) (set : SyntaxSet) (path : List ℕ) (e : Error) → HasNoLinesWithin Faults limits set path e → HasNoLinesWithin Others limits set path e
 faults_within Faults Others any limits set path e (inl h) = inl (faults_in Faults Others any set path e h)
