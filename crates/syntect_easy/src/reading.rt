@@ -18,8 +18,8 @@ use std::{fmt, io, str};
 use syntect_parsing::error::{Error, ParsingError};
 
 /// Why a reader's lines are not shown: what `Error` has of it, without the refusals of loading.
-/// The borrow checker covers no call that takes `FileLines` and answers an error in which a `'static`
-/// text stands, as in those of loading.
+/// The borrow checker covers no call that takes `FileLines` and answers an error which has a
+/// `'static` text, as those of loading do.
 #[derive(Drop)]
 pub enum LinesError {
     /// Reading failed, or a line is not UTF-8.
